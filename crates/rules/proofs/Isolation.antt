@@ -12,11 +12,12 @@ use Rattle.std.proofs.shelf.Tests.{cases-bool, cond-true, cond-false}
 use Rattle.rules.specs.Shape.{under}
 use Rattle.rules.specs.Kind.{Kind}
 use Rattle.rules.specs.State.{Opening, Valid, fresh, Turn, State, put, turn-of, picked, open-turn, to-do}
-use Rattle.rules.specs.Rules.{Grant, Call, submit, dispatch, pulse, end-turn, give-up, Answer, accepted, granted, worked, closed, after-charge, settle, head-cost, may-stop, settled, answer, effect, Step}
+use Rattle.rules.specs.Rules.{Grant, Call, submit, dispatch, pulse, end-turn, give-up, Answer, refused, accepted, granted, worked, closed, after-charge, settle, head-cost, may-stop, settled, answer, effect, Step}
 use Rattle.rules.specs.Ready.{Names, Ready}
-use Rattle.rules.specs.History.{Entry, entry, Run, opened, made, serves-by, serves, turns-given}
-use Rattle.rules.specs.Laws.{rank, Inside, alone, owns, call-alone, answer-alone, own, Agrees, Isolated}
-use Rattle.rules.proofs.Calls.{accept, by-calls}
+use Rattle.rules.specs.History.{Entry, entry, Run, opened, made, serves-by, serves}
+use Rattle.rules.specs.Alone.{rank, alone, owns, call-alone, answer-alone, last-grant, next-grant, head, item-of, turn-item, Inside, Agrees, Beside, both-opened, own-call, other-call}
+use Rattle.rules.specs.Laws.{Isolated}
+use Rattle.rules.proofs.Calls.{accept, by-step}
 use Rattle.rules.proofs.Steady.{told-turn, steady, open-known}
 use Rattle.rules.proofs.Subtree.{Part, subtree-part, member-rank, rank-known, leaf-part, put-part, put-other}
 use Rattle.rules.proofs.Twins.{num, Tagged, own-phase, Mirrors, Twins, stored-part, picked-known, alone-busy, picked-part, advanced-own, advanced-other, woken-own, woken-other, closed-own, closed-other}
@@ -75,19 +76,15 @@ module _ {I : Type 0} (K : Kind I) {g : ℕ} {s a : State I} (w : Twins g s a) w
     alone-free : a .phase ≡ None
     alone-free = m .phase ∙ ap (own-phase (s .shape) g) (p .free)
 
-    -- the turn that it opens, as the tree alone has it
-    abbrev new : Option Turn
-    new = Some (record { leaf = num s g (picked s); cost = head-cost K (s .lane (picked s)); done = 0 })
-
     -- a dispatch that serves a leaf at or below g
-    dispatch-own : under (s .shape) g (picked s) ≡ true → Follows dispatch (granted (record { house = s .house; turn = a .turns + 1 }) (num s g (picked s)) (head-cost K (s .lane (picked s)))) (effect K s dispatch d)
+    dispatch-own : under (s .shape) g (picked s) ≡ true → Follows dispatch (granted (next-grant a) (num s g (picked s)) (head-cost K (s .lane (picked s)))) (effect K s dispatch d)
     dispatch-own on =
         let pick = picked-part w (p .busy) on in
         let cost = ap (head-cost K) (ap (a .lane) pick ∙ m .lane (picked s) (picked-known w (p .busy), on)) in
         record {
           amount = 0;
           within = omega arith;
-          says = ap (λ i. granted (record { house = i; turn = a .turns + 1 }) (picked a) (head-cost K (a .lane (picked a)))) (w .house) ∙ ap₂ (granted (record { house = s .house; turn = a .turns + 1 })) pick cost;
+          says = ap₂ (granted (next-grant a)) pick cost;
           ready = record {
             free = alone-free;
             busy = alone-busy w (p .busy) on;
@@ -179,11 +176,11 @@ module _ {I : Type 0} (K : Kind I) {g : ℕ} {s a : State I} (w : Twins g s a) w
       same-done = ap (λ (t : Turn). t .done) same-turn
 
       -- its own grant names it
-      names : Names K a (record { house = s .house; turn = a .turns })
-      names = record { opened = alone-open ∙ ap {B = Option Turn} Some (sym same-turn); house = sym (w .house); turn = refl }
+      names : Names K a (last-grant a)
+      names = record { opened = alone-open ∙ ap {B = Option Turn} Some (sym same-turn); house = refl; turn = refl }
 
       -- a pulse of a turn at or below g
-      pulse-own : (v : Grant) (d : ℕ) → d ≤ to-do s → Follows (pulse (record { house = s .house; turn = a .turns })) (worked d) (effect K s (pulse v) d)
+      pulse-own : (v : Grant) (d : ℕ) → d ≤ to-do s → Follows (pulse (last-grant a)) (worked d) (effect K s (pulse v) d)
       pulse-own v d le = record {
         amount = d;
         within = omega (arith, ap (λ (t : Turn). t .cost - t .done) same-turn);
@@ -211,7 +208,7 @@ module _ {I : Type 0} (K : Kind I) {g : ℕ} {s a : State I} (w : Twins g s a) w
       }
 
       -- an ending at or below g
-      end-own : (v : Grant) (d : ℕ) → Ready K s (end-turn v) → Follows (end-turn (record { house = s .house; turn = a .turns })) (closed (open-turn s .done)) (effect K s (end-turn v) d)
+      end-own : (v : Grant) (d : ℕ) → Ready K s (end-turn v) → Follows (end-turn (last-grant a)) (closed (open-turn s .done)) (effect K s (end-turn v) d)
       end-own v d (_, p) =
           let l = open-turn s .leaf in
           record {
@@ -234,25 +231,38 @@ module _ {I : Type 0} (K : Kind I) {g : ℕ} {s a : State I} (w : Twins g s a) w
           }
 
       -- a giving up at or below g
-      give-up-own : (v : Grant) (d : ℕ) → Follows (give-up (record { house = s .house; turn = a .turns })) (closed (open-turn s .done)) (effect K s (give-up v) d)
+      give-up-own : (v : Grant) (d : ℕ) → Follows (give-up (last-grant a)) (closed (open-turn s .done)) (effect K s (give-up v) d)
       give-up-own v d = record { amount = 0; within = omega arith; says = ap closed same-done; ready = (names, w .full-alone (open-turn a .leaf)); mirrors = settle-own (s .lane) (a .lane) (s .queued) (a .queued) (m .lane) (m .queued) }
 
-module _ {I : Type 0} (K : Kind I) (o : Opening) (ok : Valid o) (g : ℕ) (known : g < o .shape .count) where
+module _ {I : Type 0} (K : Kind I) (o : Opening) (ok : Valid o) (g : ℕ) (known : g < o .shape .count) (house work : ℕ) where
+  -- the tree alone
+  abbrev new : Opening
+  new = alone o g house work
+
   -- the history h has led to s, and its own calls of g, played alone, to a state that mirrors s
   record Alike (h : List (Entry I)) (s : State I) : Type 0 where
     state : State I
-    run : Run K (alone o g) (own (o .house) (o .shape) g h) state
+    calls : List (Entry I)
+    run : Run K new calls state
     mirrors : Mirrors g s state
+    beside : Beside K o g new h s state
+
+  -- what mirrors the tree agrees with it
+  agree : {h : List (Entry I)} {s a : State I} → Run K o h s → Mirrors g s a → Agrees (o .shape) g s a
+  agree {s = s} {a = a} r m = subst (λ t. Agrees t g s a) (steady K o r .frame .1) (record { start = m .tags .start; finish = m .tags .finish; virtual = m .tags .virtual; lane = m .lane; item = item (s .phase) refl })
+    where
+      item : (p : Option Turn) → s .phase ≡ p → under (s .shape) g (turn-of p .leaf) ≡ true → turn-item a ≡ item-of (s .lane) p
+      item None e on = ap (item-of (a .lane)) (m .phase ∙ ap (own-phase (s .shape) g) e)
+      item (Some u) e on = ap (item-of (a .lane)) (m .phase ∙ ap (own-phase (s .shape) g) e ∙ cond-true _ _ _ on) ∙ ap head (m .lane (u .leaf) (open-known K o ok r u e, on))
 
   module _ {h : List (Entry I)} {s : State I} (r : Run K o h s) (x : Alike h s) where
     -- the two trees are twins
     twins : Twins g s (x .state)
     twins =
         let k = steady K o r in
-        let j = steady K (alone o g) (x .run) in
+        let j = steady K new (x .run) in
         record {
           part = subst₂ (λ t u. Part t g u) (sym (k .frame .1)) (sym (j .frame .1)) (subtree-part (ok .sound) known);
-          house = j .frame .0 ∙ sym (k .frame .0);
           places = j .frame .3 ∙ sym (k .frame .3);
           weight = subst₂ (λ t v. (i : ℕ) → Inside t g i → x .state .weight (rank t g i) ≡ v i) (sym (k .frame .1)) (sym (k .frame .2))
               (λ i z. ap (λ v. v (rank (o .shape) g i)) (j .frame .2) ∙ ap (o .weight) (member-rank (o .shape) g i (o .shape .count) (z .1) (z .0)));
@@ -273,7 +283,7 @@ module _ {I : Type 0} (K : Kind I) (o : Opening) (ok : Valid o) (g : ℕ) (known
 
     -- an own call is followed
     own-after : (c : Call I) (d : ℕ) → Ready K s c → d ≤ to-do s → owns (s .shape) g (entry c (answer K s c d)) h ≡ true →
-        Follows K twins (call-alone (s .house) (s .shape) g (x .state .turns) c) (answer-alone (s .house) (s .shape) g (x .state .turns) (answer K s c d)) (effect K s c d)
+        Follows K twins (call-alone (s .shape) g (last-grant (x .state)) c) (answer-alone (s .shape) g (next-grant (x .state)) (answer K s c d)) (effect K s c d)
     own-after (submit c y) d p le i = submit-own K twins c y d p i
     own-after dispatch d p le i = dispatch-own K twins d p i
     own-after (pulse v) d p le i = pulse-own K twins (leaf-known (p .opened)) (p .opened) (sym (served (p .opened)) ∙ i) v d le
@@ -288,49 +298,41 @@ module _ {I : Type 0} (K : Kind I) (o : Opening) (ok : Valid o) (g : ℕ) (known
     other-after (end-turn v) d p i = end-other K twins (leaf-known (p .0 .opened)) (p .0 .opened) (sym (served (p .0 .opened)) ∙ i) v d
     other-after (give-up v) d p i = settle-other K twins (leaf-known (p .0 .opened)) (p .0 .opened) (sym (served (p .0 .opened)) ∙ i) (s .lane) (s .queued) (λ _ _. refl) (λ _ _. refl)
 
+    -- a call that is not own leaves the tree alone as it is
+    passed-by : (e : Entry I) (s′ : State I) → Step K s (e .call) (e .answer) s′ → owns (o .shape) g e h ≡ false → Mirrors g s′ (x .state) → Alike (e ∷ h) s′
+    passed-by e s′ st i m = record { state = x .state; calls = x .calls; run = x .run; mirrors = m; beside = other-call (x .beside) st i (agree (made r st) m) }
+
     -- each accepted call keeps the two alike
-    alike-after : (c : Call I) (d : ℕ) → Ready K s c → d ≤ to-do s → Alike (entry c (answer K s c d) ∷ h) (effect K s c d)
-    alike-after c d p le =
-        let (house, shape, _, _) = steady K o r .frame in
+    alike-after : (c : Call I) (d : ℕ) → Ready K s c → d ≤ to-do s → Step K s c (answer K s c d) (effect K s c d) → Alike (entry c (answer K s c d) ∷ h) (effect K s c d)
+    alike-after c d p le st =
+        let shape = steady K o r .frame .1 in
         let e = entry c (answer K s c d) in
-        let rest = own (o .house) (o .shape) g h in
-        let n = turns-given rest in
-        let e′ = entry (call-alone (o .house) (o .shape) g n c) (answer-alone (o .house) (o .shape) g n (answer K s c d)) in
         elim (cases-bool (owns (o .shape) g e h)) [
           | inl i ↦
-              let f = subst₂ (λ u t. Follows K twins (call-alone u t g (x .state .turns) c) (answer-alone u t g (x .state .turns) (answer K s c d)) (effect K s c d)) house shape (own-after c d p le (subst (λ t. owns t g e h ≡ true) (sym shape) i)) in
-              let f′ = subst (λ n. Follows K twins (call-alone (o .house) (o .shape) g n c) (answer-alone (o .house) (o .shape) g n (answer K s c d)) (effect K s c d)) (steady K (alone o g) (x .run) .turns) f in
-              record {
-                state = effect K (x .state) (e′ .call) (f′ .amount);
-                run = subst (λ l. Run K (alone o g) l (effect K (x .state) (e′ .call) (f′ .amount))) (sym (cond-true _ _ _ i))
-                    (made (x .run) (subst (λ y. Step K (x .state) (e′ .call) y (effect K (x .state) (e′ .call) (f′ .amount))) (f′ .says) (accept K (x .state) (e′ .call) (f′ .amount) (f′ .ready) (f′ .within))));
-                mirrors = f′ .mirrors;
-              }
-          | inr i ↦ record {
-            state = x .state;
-            run = subst (λ l. Run K (alone o g) l (x .state)) (sym (cond-false _ _ _ i)) (x .run);
-            mirrors = other-after c d p (subst (λ t. owns t g e h ≡ false) (sym shape) i);
-          }
+              let a = x .state in
+              let c′ = call-alone (o .shape) g (last-grant a) c in
+              let x′ = answer-alone (o .shape) g (next-grant a) (answer K s c d) in
+              let f = subst (λ t. Follows K twins (call-alone t g (last-grant a) c) (answer-alone t g (next-grant a) (answer K s c d)) (effect K s c d)) shape (own-after c d p le (subst (λ t. owns t g e h ≡ true) (sym shape) i)) in
+              let st′ = subst (λ y. Step K a c′ y (effect K a c′ (f .amount))) (f .says) (accept K a c′ (f .amount) (f .ready) (f .within)) in
+              record { state = effect K a c′ (f .amount); calls = entry c′ x′ ∷ x .calls; run = made (x .run) st′; mirrors = f .mirrors; beside = own-call (x .beside) st i st′ (agree (made r st) (f .mirrors)) }
+          | inr i ↦ passed-by e (effect K s c d) st i (other-after c d p (subst (λ t. owns t g e h ≡ false) (sym shape) i))
         ]
 
   -- at the opening both trees are new, and a refused call is no own call
   alike : {h : List (Entry I)} {s : State I} → Run K o h s → Alike h s
-  alike = by-calls K o Alike
-      (record {
-        state = fresh (alone o g);
-        run = opened;
-        mirrors = record { tags = record { start = λ k i apart. refl; finish = λ k i apart. refl; virtual = λ k i. refl }; lane = λ k i. refl; queued = λ k i. refl; phase = refl; meter = omega arith; turns = omega arith };
-      })
-      (λ h s c n _ x. record { state = x .state; run = x .run; mirrors = x .mirrors })
-      (λ h s c d r p le x. alike-after r x c d p le)
-
-  -- the own calls of g, played alone
-  pub isolated : {h : List (Entry I)} {s : State I} → Run K o h s → Isolated K o h s g
-  isolated {h} {s} r =
+  alike opened = record {
+    state = fresh new;
+    calls = [];
+    run = opened;
+    mirrors = record { tags = record { start = λ k i apart. refl; finish = λ k i apart. refl; virtual = λ k i. refl }; lane = λ k i. refl; queued = λ k i. refl; phase = refl; meter = omega arith; turns = omega arith };
+    beside = both-opened;
+  }
+  alike (made {h = h} {s = s} {s′ = s′} {e = e} r st) =
       let x = alike r in
-      let m = x .mirrors in
-      record {
-        state = x .state;
-        run = x .run;
-        agrees = subst (λ t. Agrees t g s (x .state)) (steady K o r .frame .1) (record { start = m .tags .start; finish = m .tags .finish; virtual = m .tags .virtual; lane = m .lane });
-      }
+      by-step K s (λ c y s′. Step K s c y s′ → Alike (entry c y ∷ h) s′)
+      (λ c n now. passed-by r x (entry c (refused n)) s now refl (x .mirrors))
+      (λ c d p le now. alike-after r x c d p le now) (e .call) (e .answer) s′ st st
+
+-- the own calls of each class, played alone
+pub isolated : {I : Type 0} (K : Kind I) (o : Opening) → Valid o → (g : ℕ) → g < o .shape .count → {h : List (Entry I)} {s : State I} → Run K o h s → Isolated K o h s g
+isolated K o ok g known r house work = let x = alike K o ok g known house work r in (x .state, x .beside)

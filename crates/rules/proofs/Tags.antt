@@ -13,7 +13,7 @@ use Rattle.rules.specs.Rules.{woken, advanced, after-charge}
 use Rattle.rules.proofs.Tests.{put-both}
 use Rattle.rules.proofs.Tree.{under-below, below-under, under-parent, under-le, child-decides, inner-parent}
 use Rattle.rules.proofs.Backlog.{busy-from, busy-more, busy-known}
-use Rattle.rules.proofs.Picks.{next-is, goes-on, picks}
+use Rattle.rules.proofs.Picks.{next-is, goes-on, picks, path-busy, path-next}
 
 module _ {I : Type 0} (s : State I) where
   -- submission to c: a backlogged class keeps its start tag
@@ -68,17 +68,13 @@ module _ {I : Type 0} (s : State I) where
 
 -- dispatch, where only leaves hold items, something is backlogged, and no start tag is below the parent's virtual time
 module _ {I : Type 0} (s : State I) (ok : Sound (s .shape)) (leaves : (l : ℕ) → 0 < s .queued l → leaf (s .shape) l ≡ true) (busy : backlogged s 0 ≡ true) where
-  -- every class on the way is backlogged
-  pub on-way-busy : (k : ℕ) → under (s .shape) k (picked s) ≡ true → backlogged s k ≡ true
-  on-way-busy k u = let (w, some) = picks s ok leaves busy in busy-from ok (s .queued) k (record { lane = picked s; known = w .known; below = under-below ok u; some = some })
-
   -- on the way each start tag is the parent's new virtual time
   pub virtual-way : (k : ℕ) → 0 < k → under (s .shape) k (picked s) ≡ true → s .tags .start k ≡ advanced s .virtual (s .shape .parent k)
   virtual-way k z u =
-      let w = picks s ok leaves busy .0 in
-      let top = under-parent ok k (picked s) (w .known) u in
-      let n : s .tags .start (next s (s .shape .parent k)) ≡ s .tags .start k = ap (s .tags .start) (w .on k z (under-below ok u)) in
-      let inner = inner-parent ok k z (omega (arith, under-le ok k (picked s) u, w .known)) in
+      let known = picks s ok leaves busy .0 .known in
+      let top = under-parent ok k (picked s) known u in
+      let n : s .tags .start (next s (s .shape .parent k)) ≡ s .tags .start k = ap (s .tags .start) (path-next s ok leaves busy k z u) in
+      let inner = inner-parent ok k z (omega (arith, under-le ok k (picked s) u, known)) in
       grind (arith, tells)
 
   module _ (floor : (k : ℕ) → 0 < k → backlogged s k ≡ true → s .tags .virtual (s .shape .parent k) ≤ s .tags .start k) where
@@ -87,7 +83,7 @@ module _ {I : Type 0} (s : State I) (ok : Sound (s .shape)) (leaves : (l : ℕ) 
     virtual-grows p = cond-both (under (s .shape) p (picked s) && not (leaf (s .shape) p)) (s .tags .start (next s p)) (s .tags .virtual p) (λ v. s .tags .virtual p ≤ v)
         (λ e.
         let (on, inner) = and-parts _ _ e in
-        let b = goes-on s ok leaves p (on-way-busy p on) (not-true _ inner) in
+        let b = goes-on s ok leaves p (path-busy s ok leaves busy p on) (not-true _ inner) in
         let (pos, is) = child-decides (s .shape) p (next s p) .0 (b .kid) in
         rw is at (floor (next s p) pos (b .busy)))
         (λ _. omega arith)

@@ -1,4 +1,5 @@
--- A history of calls with their answers, the newest first, and what can be read off it alone. Assumes nothing.
+-- A history of calls with their answers, the newest first, and what can be read off it alone. A moment lies before, between or after
+-- calls: it is given by the calls so far. Assumes nothing.
 use mathlib.Core.Bool.{Bool, true, false, not, _&&_, cond}
 use mathlib.Core.List.{List, [], _∷_, _++_}
 use mathlib.Core.Logic.{_⊎_}
@@ -12,16 +13,17 @@ use Rattle.rules.specs.Kind.{Kind}
 use Rattle.rules.specs.State.{Opening, fresh, State}
 use Rattle.rules.specs.Rules.{Grant, Call, submit, dispatch, pulse, end-turn, give-up, Answer, refused, accepted, granted, worked, closed, Step}
 
+-- a call with its answer
 pub record Entry (I : Type 0) : Type 0 where
   pub call : Call I
   pub answer : Answer
 
--- a call with its answer
+-- the same, written short
 abbrev pub entry : {I : Type 0} → Call I → Answer → Entry I
 entry c a = record { call = c; answer = a }
 
--- the histories of the calls on a newly opened tree with an empty shelf, and the state each leads to
 module _ {I : Type 0} (K : Kind I) (o : Opening) where
+  -- the histories of calls on a newly opened tree with an empty shelf, refused calls among them, and the state that each leads to
   pub data Run : List (Entry I) → State I → Type 0 where
     opened : Run [] (fresh o)
     made : {h : List (Entry I)} {s s′ : State I} {e : Entry I} → Run h s → Step K s (e .call) (e .answer) s′ → Run (e ∷ h) s′
@@ -81,16 +83,21 @@ module _ {I : Type 0} where
   abbrev pub grant-after : List (Entry I) → Option Grant
   grant-after h = grant-of (turn-after h)
 
-  -- what one answer charges to class k
+  -- what one call, made after h, charges to class k: a closing charges its answer to the leaf that its turn served and to each class above
   abbrev pub charge : Shape → ℕ → Entry I → List (Entry I) → ℕ
   charge t k e h = elim (e .answer) [ refused e ↦ 0 | accepted ↦ 0 | granted g l c ↦ 0 | worked d ↦ 0 | closed d ↦ cond (serves t k h) d 0 ]
 
-  -- what a history charges to class k
+  -- what a whole history charges to class k
   abbrev pub charges : Shape → ℕ → List (Entry I) → ℕ
   charges t k [] = 0
   charges t k (e ∷ h) = charge t k e h + charges t k h
 
-  -- its largest single charge
+  -- what it is charged between two moments: by the calls of after, which follow on those of before
+  abbrev pub between : Shape → ℕ → List (Entry I) → List (Entry I) → ℕ
+  between t k [] before = 0
+  between t k (e ∷ after) before = charge t k e (after ++ before) + between t k after before
+
+  -- its largest single charge in a history, or 0
   abbrev pub largest : Shape → ℕ → List (Entry I) → ℕ
   largest t k [] = 0
   largest t k (e ∷ h) = max (charge t k e h) (largest t k h)
@@ -179,7 +186,7 @@ module _ {I : Type 0} (K : Kind I) where
   abbrev pub has-work : Shape → ℕ → List (Entry I) → Bool
   has-work t k h = any (λ l. under t k l && not (none (waiting l h))) (t .count)
 
-  -- k has work at each moment from the end of h to the end of m ++ h
+  -- k has work at each moment from the end of before to the end of after
   abbrev pub Throughout : Shape → ℕ → List (Entry I) → List (Entry I) → Type 0
-  Throughout t k [] h = has-work t k h ≡ true
-  Throughout t k (e ∷ m) h = (has-work t k (e ∷ (m ++ h)) ≡ true) × Throughout t k m h
+  Throughout t k [] before = has-work t k before ≡ true
+  Throughout t k (e ∷ after) before = (has-work t k (e ∷ (after ++ before)) ≡ true) × Throughout t k after before

@@ -4,4 +4,6 @@ pub mod State
 pub mod Rules
 pub mod Ready
 pub mod History
+pub mod Picks
+pub mod Alone
 pub mod Laws
