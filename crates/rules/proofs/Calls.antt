@@ -2,7 +2,7 @@
 use mathlib.Core.Bool.{Bool, true, false, not, cond}
 use mathlib.Core.List.{List, [], _∷_}
 use mathlib.Core.Path.{_≡_, refl, sym, ap, subst, subst₂, _∙_}
-use Prim.Native.Nat.{ℕ, zero, suc, _+_, _≤_, _<_}
+use Prim.Native.Nat.{ℕ, zero, suc, _+_, _≤_}
 use lib.ListN.{length}
 use Rattle.std.specs.Orderings.{Decides}
 use Rattle.std.specs.declared.option.Option.{Option}
@@ -10,8 +10,8 @@ use Rattle.std.specs.declared.option.Option.the-variants.{Some, None}
 use Rattle.std.proofs.shelf.Tests.{eqb-true, eq-eqb, ltb-true, ltb-false, lt-ltb, le-ltb, leb-true, leb-false, le-leb, lt-leb, and-parts, and-from, or-parts, or-from, not-false, not-from-true, both-ways}
 use Rattle.base.specs.declared.refusal.Refusal.{Refusal}
 use Rattle.rules.specs.Kind.{Kind}
-use Rattle.rules.specs.State.{Opening, fresh, Turn, State, is-open, turn-of, backlogged, picked, stored, mismatch, open-turn, to-do}
-use Rattle.rules.specs.Rules.{Grant, Call, submit, dispatch, pulse, end-turn, give-up, Answer, refused, first, head-cost, may-stop, wrong-grant, table, refusal, answer, effect, Says, Step}
+use Rattle.rules.specs.State.{Opening, fresh, Turn, State, is-open, turn-of, picked, stored, mismatch, open-turn, to-do}
+use Rattle.rules.specs.Rules.{Grant, Call, submit, dispatch, pulse, end-turn, give-up, Answer, refused, first, head-cost, wrong-grant, table, refusal, answer, effect, Says, Step}
 use Rattle.rules.specs.Ready.{Names, Ready, is-accepted, Accepts}
 use Rattle.rules.specs.History.{Entry, entry, Run, opened, made}
 use Rattle.rules.proofs.Tests.{not-some}

@@ -18,9 +18,9 @@ use Rattle.rules.specs.Laws.{Siblings, Fair}
 use Rattle.rules.proofs.Tests.{any-decides}
 use Rattle.rules.proofs.Tree.{under-below}
 use Rattle.rules.proofs.Backlog.{busy-from, busy-parent}
-use Rattle.rules.proofs.Steady.{steady, sound}
-use Rattle.rules.proofs.Conservation.{stock}
-use Rattle.rules.proofs.Gauge.{gauge, gauge-busy, gauge-near, shifts}
+use Rattle.rules.proofs.Consistent.{consistent, sound}
+use Rattle.rules.proofs.Conservation.{balanced}
+use Rattle.rules.proofs.StartTags.{wake-or-start, start-busy, start-near, shifts}
 use Rattle.rules.proofs.Shares.{share, parts-is}
 
 -- the sums: cf and cm are charged at rates rf and rm, from tags near v₀ to tags near v
@@ -51,40 +51,40 @@ module _ {I : Type 0} (K : Kind I) (laws : KindLaws K) (o : Opening) (ok : Valid
   -- a class that has work is backlogged
   work-busy : {h : List (Entry I)} {s : State I} → Run K o h s → (k : ℕ) → has-work K (o .shape) k h ≡ true → backlogged s k ≡ true
   work-busy {h} {s} r k w =
-      let n = steady K o r in
+      let n = consistent K o r in
       let (l, lt, e) = any-decides (λ l. under (o .shape) k l && not (none (waiting K l h))) (o .shape .count) .0 w in
       let (on, some) = and-parts _ _ e in
       busy-from (sound K o ok n) (s .queued) k (record {
         lane = l;
         known = subst (λ t. l < t .count) (sym (n .frame .1)) lt;
         below = under-below (sound K o ok n) (subst (λ t. under t k l ≡ true) (sym (n .frame .1)) on);
-        some = omega (arith, some-length (waiting K l h) some, ap length (stock K laws o ok r .lanes l), length-map (waiting K l h) (λ v. v .item), n .full l);
+        some = omega (arith, some-length (waiting K l h) some, ap length (balanced K laws o ok r .lanes l), length-map (waiting K l h) (λ v. v .item), n .full l);
       })
 
   -- the parent of a class that has work is backlogged
   parent-busy : {h : List (Entry I)} {s : State I} → Run K o h s → (k : ℕ) → has-work K (o .shape) k h ≡ true → backlogged s (o .shape .parent k) ≡ true
-  parent-busy {h} {s} r k w = let n = steady K o r in subst (λ t. backlogged s (t .parent k) ≡ true) (n .frame .1) (busy-parent (sound K o ok n) (s .queued) k (work-busy r k w))
+  parent-busy {h} {s} r k w = let n = consistent K o r in subst (λ t. backlogged s (t .parent k) ≡ true) (n .frame .1) (busy-parent (sound K o ok n) (s .queued) k (work-busy r k w))
 
   module _ (k : ℕ) (z : 0 < k) (lt : k < o .shape .count) where
     -- a class of the tree as it was opened is one of the tree now
     known : {h : List (Entry I)} {s : State I} → Run K o h s → k < s .shape .count
-    known r = subst (λ t. k < t .count) (sym (steady K o r .frame .1)) lt
+    known r = subst (λ t. k < t .count) (sym (consistent K o r .frame .1)) lt
 
-    -- what `gauge-near` says, for the tree as it was opened
-    near : {h : List (Entry I)} {s : State I} (r : Run K o h s) → (s .tags .virtual (o .shape .parent k) ≤ gauge s k) × (gauge s k ≤ s .tags .virtual (o .shape .parent k) + largest (o .shape) k h * (720720 / o .weight k))
+    -- what `start-near` says, for the tree as it was opened
+    near : {h : List (Entry I)} {s : State I} (r : Run K o h s) → (s .tags .virtual (o .shape .parent k) ≤ wake-or-start s k) × (wake-or-start s k ≤ s .tags .virtual (o .shape .parent k) + largest (o .shape) k h * (720720 / o .weight k))
     near {h} {s} r =
-        let (_, shape, weight, _) = steady K o r .frame in
-        let g = subst₂ (λ t w. (s .tags .virtual (t .parent k) ≤ gauge s k) × (gauge s k ≤ s .tags .virtual (t .parent k) + charged (largest t k h) (w k))) shape weight (gauge-near K o ok r k z (known r)) in
+        let (_, shape, weight, _) = consistent K o r .frame in
+        let g = subst₂ (λ t w. (s .tags .virtual (t .parent k) ≤ wake-or-start s k) × (wake-or-start s k ≤ s .tags .virtual (t .parent k) + charged (largest t k h) (w k))) shape weight (start-near K o ok r k z (known r)) in
         let w = ok .weights k lt in
         (g .0, omega (arith, g .1, parts-is (o .weight k) (w .0) (w .1) (largest (o .shape) k h)))
 
     -- what `shifts` says, for the tree as it was opened
     moved : {h : List (Entry I)} {s : State I} (s′ : State I) (e : Entry I) (r : Run K o h s) → Step K s (e .call) (e .answer) s′ → backlogged s′ (o .shape .parent k) ≡ true →
-        (backlogged s k ≡ true → backlogged s′ k ≡ true → s′ .tags .start k ≡ s .tags .start k + charge (o .shape) k e h * (720720 / o .weight k)) × (gauge s k + charge (o .shape) k e h * (720720 / o .weight k) ≤ gauge s′ k)
+        (backlogged s k ≡ true → backlogged s′ k ≡ true → s′ .tags .start k ≡ s .tags .start k + charge (o .shape) k e h * (720720 / o .weight k)) × (wake-or-start s k + charge (o .shape) k e h * (720720 / o .weight k) ≤ wake-or-start s′ k)
     moved {h} {s} s′ e r st busy =
-        let (_, shape, weight, _) = steady K o r .frame in
+        let (_, shape, weight, _) = consistent K o r .frame in
         let m = shifts K o ok r k z (known r) e s′ st (subst (λ t. backlogged s′ (t .parent k) ≡ true) (sym shape) busy) in
-        subst₂ (λ t w. (backlogged s k ≡ true → backlogged s′ k ≡ true → s′ .tags .start k ≡ s .tags .start k + charge t k e h * (720720 / w k)) × (gauge s k + charge t k e h * (720720 / w k) ≤ gauge s′ k)) shape weight (m .exact, m .onward)
+        subst₂ (λ t w. (backlogged s k ≡ true → backlogged s′ k ≡ true → s′ .tags .start k ≡ s .tags .start k + charge t k e h * (720720 / w k)) × (wake-or-start s k + charge t k e h * (720720 / w k) ≤ wake-or-start s′ k)) shape weight (m .exact, m .onward)
 
   module _ (f m : ℕ) (sib : Siblings (o .shape) f m) (before : List (Entry I)) where
     -- from the moment after before to the state s after the calls of after: f has moved on by its charges' share, m by no less than its own
@@ -93,7 +93,7 @@ module _ {I : Type 0} (K : Kind I) (laws : KindLaws K) (o : Opening) (ok : Valid
       run : Run K o before origin
       work : has-work K (o .shape) f before ≡ true
       exact : s .tags .start f ≡ origin .tags .start f + between (o .shape) f after before * (720720 / o .weight f)
-      onward : gauge origin m + between (o .shape) m after before * (720720 / o .weight m) ≤ gauge s m
+      onward : wake-or-start origin m + between (o .shape) m after before * (720720 / o .weight m) ≤ wake-or-start s m
       large : largest (o .shape) f before ≤ largest (o .shape) f (after ++ before)
 
     -- every stretch of work is such a span
@@ -135,11 +135,11 @@ module _ {I : Type 0} (K : Kind I) (laws : KindLaws K) (o : Opening) (ok : Valid
       let rf = 720720 / o .weight f in
       let rm = 720720 / o .weight m in
       fair-sums (between (o .shape) m after before) (between (o .shape) f after before) (largest (o .shape) m t) (largest (o .shape) f t) rm rf (o .weight m) (o .weight f)
-      (i .origin .tags .virtual (o .shape .parent m)) (s .tags .virtual (o .shape .parent m)) (i .origin .tags .start f) (s .tags .start f) (gauge (i .origin) m) (gauge s m)
+      (i .origin .tags .virtual (o .shape .parent m)) (s .tags .virtual (o .shape .parent m)) (i .origin .tags .start f) (s .tags .start f) (wake-or-start (i .origin) m) (wake-or-start s m)
       (share (o .weight m) (wm .0) (wm .1)) (share (o .weight f) (wf .0) (wf .1))
       (i .exact)
-      (omega (arith, b .0, gauge-busy s f (work-busy r f (at-end f after before w)), ap (s .tags .virtual) p))
-      (omega (arith, a .1, gauge-busy (i .origin) f (work-busy (i .run) f (i .work)), ap (i .origin .tags .virtual) p, mul-le-mul-right rf (i .large)))
+      (omega (arith, b .0, start-busy s f (work-busy r f (at-end f after before w)), ap (s .tags .virtual) p))
+      (omega (arith, a .1, start-busy (i .origin) f (work-busy (i .run) f (i .work)), ap (i .origin .tags .virtual) p, mul-le-mul-right rf (i .large)))
       (i .onward)
       (c .0)
       (d .1)

@@ -14,7 +14,7 @@ use Rattle.rules.specs.History.{Entry, entry, Run, grant-of, grant-after, give
 use Rattle.rules.specs.Laws.{Keyed, Foreign}
 use Rattle.rules.proofs.Tests.{not-some, some-same}
 use Rattle.rules.proofs.Calls.{by-calls}
-use Rattle.rules.proofs.Steady.{told-turn, steady}
+use Rattle.rules.proofs.Consistent.{told-turn, consistent}
 
 -- what holds of each call holds of some call that also has another property
 pub sometime : {I : Type 0} {P Q : Entry I → List (Entry I) → Type 0} {R : Type 0} (h : List (Entry I)) → ((e : Entry I) (before : List (Entry I)) → P e before → Q e before → R) → Always P h → Sometime Q h → R
@@ -54,8 +54,8 @@ module _ {I : Type 0} (o : Opening) where
       names-grant e x n took no-given = record {
         named = (
           λ g is. let same : g ≡ x = some-same (sym is ∙ took) in (
-            ap grant-of (told-turn K o (steady K o r) (n .opened)) ∙ ap₂ {C = Option Grant} (λ a b. Some (record { house = a; turn = b })) (sym (n .house)) (sym (n .turn)) ∙ ap Some (sym same),
-            ap (λ (y : Grant). y .house) same ∙ n .house ∙ steady K o r .frame .0,
+            ap grant-of (told-turn K o (consistent K o r) (n .opened)) ∙ ap₂ {C = Option Grant} (λ a b. Some (record { house = a; turn = b })) (sym (n .house)) (sym (n .turn)) ∙ ap Some (sym same),
+            ap (λ (y : Grant). y .house) same ∙ n .house ∙ consistent K o r .frame .0,
           ),
           k .named,
         );
@@ -67,7 +67,7 @@ module _ {I : Type 0} (o : Opening) where
       keys-after (submit c x) d p = keyless _ h refl refl k
       keys-after dispatch d p = record {
         named = (λ g is. absurd (not-some is), k .named);
-        numbered = (λ g is. sym (some-same is) ∙ ap₂ {C = Grant} (λ a b. record { house = a; turn = b + 1 }) (steady K o r .frame .0) (steady K o r .turns), k .numbered);
+        numbered = (λ g is. sym (some-same is) ∙ ap₂ {C = Grant} (λ a b. record { house = a; turn = b + 1 }) (consistent K o r .frame .0) (consistent K o r .turns), k .numbered);
       }
       keys-after (pulse x) d p = names-grant (entry (pulse x) (answer K s (pulse x) d)) x p refl refl
       keys-after (end-turn x) d (p, _) = names-grant (entry (end-turn x) (answer K s (end-turn x) d)) x p refl refl

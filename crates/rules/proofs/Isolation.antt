@@ -18,22 +18,22 @@ use Rattle.rules.specs.History.{Entry, entry, Run, opened, made, serves-by, se
 use Rattle.rules.specs.Alone.{rank, alone, owns, call-alone, answer-alone, last-grant, next-grant, head, item-of, turn-item, Inside, Agrees, Beside, both-opened, own-call, other-call}
 use Rattle.rules.specs.Laws.{Isolated}
 use Rattle.rules.proofs.Calls.{accept, by-step}
-use Rattle.rules.proofs.Steady.{told-turn, steady, open-known}
+use Rattle.rules.proofs.Consistent.{told-turn, consistent, open-known}
 use Rattle.rules.proofs.Subtree.{Part, subtree-part, member-rank, rank-known, leaf-part, put-part, put-other}
-use Rattle.rules.proofs.Twins.{num, Tagged, own-phase, Mirrors, Twins, stored-part, picked-known, alone-busy, picked-part, advanced-own, advanced-other, woken-own, woken-other, closed-own, closed-other}
+use Rattle.rules.proofs.Restriction.{num, Tagged, own-phase, Restricts, Restriction, stored-part, picked-known, alone-busy, picked-part, advanced-own, advanced-other, woken-own, woken-other, closed-own, closed-other}
 
-module _ {I : Type 0} (K : Kind I) {g : ℕ} {s a : State I} (w : Twins g s a) where
-  -- the tree alone mirrors the whole
-  abbrev m : Mirrors g s a
-  m = w .mirrors
+module _ {I : Type 0} (K : Kind I) {g : ℕ} {s a : State I} (w : Restriction g s a) where
+  -- the tree alone is the whole, restricted to g's part
+  abbrev m : Restricts g s a
+  m = w .restricts
 
-  -- the tree alone accepts the call c with the answer x, and then mirrors s′
+  -- the tree alone accepts the call c with the answer x, and is then the restriction of s′
   record Follows (c : Call I) (x : Answer) (s′ : State I) : Type 0 where
     amount : ℕ
     within : amount ≤ to-do a
     ready : Ready K a c
     says : answer K a c amount ≡ x
-    mirrors : Mirrors g s′ (effect K a c amount)
+    restricts : Restricts g s′ (effect K a c amount)
 
   module _ (c : ℕ) (x : I) (d : ℕ) (p : Ready K s (submit c x)) where
     -- a submission at or below g
@@ -50,7 +50,7 @@ module _ {I : Type 0} (K : Kind I) {g : ℕ} {s a : State I} (w : Twins g s a) w
         full = w .full-alone (num s g c);
         room = omega (arith, stored-part w, p .room, w .places);
       };
-      mirrors = record {
+      restricts = record {
         tags = woken-own w c j;
         lane = put-part (w .part) (s .lane) (a .lane) (m .lane) c j (ap (λ l. l ++ x ∷ []) (m .lane c j));
         queued = put-part (w .part) (s .queued) (a .queued) (m .queued) c j (ap (λ n. n + 1) (m .queued c j));
@@ -61,7 +61,7 @@ module _ {I : Type 0} (K : Kind I) {g : ℕ} {s a : State I} (w : Twins g s a) w
     }
 
     -- a submission elsewhere
-    submit-other : under (s .shape) g c ≡ false → Mirrors g (effect K s (submit c x) d) a
+    submit-other : under (s .shape) g c ≡ false → Restricts g (effect K s (submit c x) d) a
     submit-other off = record {
       tags = woken-other w c (p .known) off;
       lane = λ k i. m .lane k i ∙ sym (put-other (w .part) (s .lane) c (s .lane c ++ x ∷ []) off k i);
@@ -92,7 +92,7 @@ module _ {I : Type 0} (K : Kind I) {g : ℕ} {s a : State I} (w : Twins g s a) w
             meter = omega (arith, cost, m .meter, p .meter);
             turns = omega (arith, m .turns, p .turns);
           };
-          mirrors = record {
+          restricts = record {
             tags = advanced-own w (p .busy) on;
             lane = m .lane;
             queued = m .queued;
@@ -103,7 +103,7 @@ module _ {I : Type 0} (K : Kind I) {g : ℕ} {s a : State I} (w : Twins g s a) w
         }
 
     -- a dispatch that serves another leaf
-    dispatch-other : under (s .shape) g (picked s) ≡ false → Mirrors g (effect K s dispatch d) a
+    dispatch-other : under (s .shape) g (picked s) ≡ false → Restricts g (effect K s dispatch d) a
     dispatch-other off = record {
       tags = advanced-other w (p .busy) off;
       lane = m .lane;
@@ -129,7 +129,7 @@ module _ {I : Type 0} (K : Kind I) {g : ℕ} {s a : State I} (w : Twins g s a) w
       alone-rests = alone-phase ∙ cond-false _ _ _ off
 
       -- a pulse of a turn elsewhere
-      pulse-other : (v : Grant) (d : ℕ) → Mirrors g (effect K s (pulse v) d) a
+      pulse-other : (v : Grant) (d : ℕ) → Restricts g (effect K s (pulse v) d) a
       pulse-other v d = record {
         tags = m .tags;
         lane = m .lane;
@@ -140,7 +140,7 @@ module _ {I : Type 0} (K : Kind I) {g : ℕ} {s a : State I} (w : Twins g s a) w
       }
 
       -- a closing elsewhere
-      settle-other : (lane : ℕ → List I) (queued : ℕ → ℕ) → ((k : ℕ) → Inside (s .shape) g k → lane k ≡ s .lane k) → ((k : ℕ) → Inside (s .shape) g k → queued k ≡ s .queued k) → Mirrors g (settle s lane queued) a
+      settle-other : (lane : ℕ → List I) (queued : ℕ → ℕ) → ((k : ℕ) → Inside (s .shape) g k → lane k ≡ s .lane k) → ((k : ℕ) → Inside (s .shape) g k → queued k ≡ s .queued k) → Restricts g (settle s lane queued) a
       settle-other lane queued lanes counts = record {
         tags = closed-other w (open-turn s .leaf) (open-turn s .done) queued known off;
         lane = λ k i. m .lane k i ∙ sym (lanes k i);
@@ -151,7 +151,7 @@ module _ {I : Type 0} (K : Kind I) {g : ℕ} {s a : State I} (w : Twins g s a) w
       }
 
       -- an ending elsewhere
-      end-other : (v : Grant) (d : ℕ) → Mirrors g (effect K s (end-turn v) d) a
+      end-other : (v : Grant) (d : ℕ) → Restricts g (effect K s (end-turn v) d) a
       end-other v d = settle-other _ _ (put-other (w .part) (s .lane) (open-turn s .leaf) _ off) (put-other (w .part) (s .queued) (open-turn s .leaf) _ off)
 
     module _ (on : under (s .shape) g (open-turn s .leaf) ≡ true) where
@@ -186,7 +186,7 @@ module _ {I : Type 0} (K : Kind I) {g : ℕ} {s a : State I} (w : Twins g s a) w
         within = omega (arith, ap (λ (t : Turn). t .cost - t .done) same-turn);
         says = refl;
         ready = names;
-        mirrors = record {
+        restricts = record {
           tags = m .tags;
           lane = m .lane;
           queued = m .queued;
@@ -196,8 +196,8 @@ module _ {I : Type 0} (K : Kind I) {g : ℕ} {s a : State I} (w : Twins g s a) w
         };
       }
 
-      -- a closing keeps the mirror
-      settle-own : (lane lane′ : ℕ → List I) (queued queued′ : ℕ → ℕ) → ((k : ℕ) → Inside (s .shape) g k → lane′ (num s g k) ≡ lane k) → ((k : ℕ) → Inside (s .shape) g k → queued′ (num s g k) ≡ queued k) → Mirrors g (settle s lane queued) (settle a lane′ queued′)
+      -- a closing at or below g
+      settle-own : (lane lane′ : ℕ → List I) (queued queued′ : ℕ → ℕ) → ((k : ℕ) → Inside (s .shape) g k → lane′ (num s g k) ≡ lane k) → ((k : ℕ) → Inside (s .shape) g k → queued′ (num s g k) ≡ queued k) → Restricts g (settle s lane queued) (settle a lane′ queued′)
       settle-own lane lane′ queued queued′ lanes counts = record {
         tags = subst (λ (t : Turn). Tagged (s .shape) g (after-charge s (open-turn s .leaf) (open-turn s .done) queued) (after-charge a (t .leaf) (t .done) queued′)) (sym same-turn) (closed-own w (open-turn s .leaf) (open-turn s .done) queued queued′ counts inside);
         lane = lanes;
@@ -223,7 +223,7 @@ module _ {I : Type 0} (K : Kind I) {g : ℕ} {s a : State I} (w : Twins g s a) w
                 stops = ap₂ (may-stop K) same-lane same-done ∙ p .stops;
               },
             );
-            mirrors = settle-own _ _ _ _
+            restricts = settle-own _ _ _ _
                 (λ k i. ap (λ (t : Turn). put (a .lane) (t .leaf) (settled K (a .lane (t .leaf)) (t .done)) (num s g k)) same-turn
                 ∙ put-part (w .part) (s .lane) (a .lane) (m .lane) l inside (ap (λ xs. settled K xs (open-turn s .done)) (m .lane l inside)) k i)
                 (λ k i. ap (λ (t : Turn). put (a .queued) (t .leaf) (cond (eqb (t .done) (t .cost)) (a .queued (t .leaf) - 1) (a .queued (t .leaf))) (num s g k)) same-turn
@@ -232,35 +232,35 @@ module _ {I : Type 0} (K : Kind I) {g : ℕ} {s a : State I} (w : Twins g s a) w
 
       -- a giving up at or below g
       give-up-own : (v : Grant) (d : ℕ) → Follows (give-up (last-grant a)) (closed (open-turn s .done)) (effect K s (give-up v) d)
-      give-up-own v d = record { amount = 0; within = omega arith; says = ap closed same-done; ready = (names, w .full-alone (open-turn a .leaf)); mirrors = settle-own (s .lane) (a .lane) (s .queued) (a .queued) (m .lane) (m .queued) }
+      give-up-own v d = record { amount = 0; within = omega arith; says = ap closed same-done; ready = (names, w .full-alone (open-turn a .leaf)); restricts = settle-own (s .lane) (a .lane) (s .queued) (a .queued) (m .lane) (m .queued) }
 
 module _ {I : Type 0} (K : Kind I) (o : Opening) (ok : Valid o) (g : ℕ) (known : g < o .shape .count) (house work : ℕ) where
   -- the tree alone
   abbrev new : Opening
   new = alone o g house work
 
-  -- the history h has led to s, and its own calls of g, played alone, to a state that mirrors s
+  -- the history h has led to s, and its own calls of g, played alone, to its restriction
   record Alike (h : List (Entry I)) (s : State I) : Type 0 where
     state : State I
     calls : List (Entry I)
     run : Run K new calls state
-    mirrors : Mirrors g s state
+    restricts : Restricts g s state
     beside : Beside K o g new h s state
 
-  -- what mirrors the tree agrees with it
-  agree : {h : List (Entry I)} {s a : State I} → Run K o h s → Mirrors g s a → Agrees (o .shape) g s a
-  agree {s = s} {a = a} r m = subst (λ t. Agrees t g s a) (steady K o r .frame .1) (record { start = m .tags .start; finish = m .tags .finish; virtual = m .tags .virtual; lane = m .lane; item = item (s .phase) refl })
+  -- the restriction agrees with the whole
+  agree : {h : List (Entry I)} {s a : State I} → Run K o h s → Restricts g s a → Agrees (o .shape) g s a
+  agree {s = s} {a = a} r m = subst (λ t. Agrees t g s a) (consistent K o r .frame .1) (record { start = m .tags .start; finish = m .tags .finish; virtual = m .tags .virtual; lane = m .lane; item = item (s .phase) refl })
     where
       item : (p : Option Turn) → s .phase ≡ p → under (s .shape) g (turn-of p .leaf) ≡ true → turn-item a ≡ item-of (s .lane) p
       item None e on = ap (item-of (a .lane)) (m .phase ∙ ap (own-phase (s .shape) g) e)
       item (Some u) e on = ap (item-of (a .lane)) (m .phase ∙ ap (own-phase (s .shape) g) e ∙ cond-true _ _ _ on) ∙ ap head (m .lane (u .leaf) (open-known K o ok r u e, on))
 
   module _ {h : List (Entry I)} {s : State I} (r : Run K o h s) (x : Alike h s) where
-    -- the two trees are twins
-    twins : Twins g s (x .state)
-    twins =
-        let k = steady K o r in
-        let j = steady K new (x .run) in
+    -- so far the one is the other's restriction
+    restriction : Restriction g s (x .state)
+    restriction =
+        let k = consistent K o r in
+        let j = consistent K new (x .run) in
         record {
           part = subst₂ (λ t u. Part t g u) (sym (k .frame .1)) (sym (j .frame .1)) (subtree-part (ok .sound) known);
           places = j .frame .3 ∙ sym (k .frame .3);
@@ -270,12 +270,12 @@ module _ {I : Type 0} (K : Kind I) (o : Opening) (ok : Valid o) (g : ℕ) (known
           leaves-alone = j .leaves;
           known-alone = j .known;
           full-alone = j .full;
-          mirrors = x .mirrors;
+          restricts = x .restricts;
         }
 
     -- the history says whether the open turn is below g
     served : (open-now : s .phase ≡ Some (open-turn s)) → serves (s .shape) g h ≡ under (s .shape) g (open-turn s .leaf)
-    served open-now = ap (serves-by (s .shape) g) (told-turn K o (steady K o r) open-now)
+    served open-now = ap (serves-by (s .shape) g) (told-turn K o (consistent K o r) open-now)
 
     -- the leaf served is a class of the tree
     leaf-known : s .phase ≡ Some (open-turn s) → open-turn s .leaf < s .shape .count
@@ -283,38 +283,38 @@ module _ {I : Type 0} (K : Kind I) (o : Opening) (ok : Valid o) (g : ℕ) (known
 
     -- an own call is followed
     own-after : (c : Call I) (d : ℕ) → Ready K s c → d ≤ to-do s → owns (s .shape) g (entry c (answer K s c d)) h ≡ true →
-        Follows K twins (call-alone (s .shape) g (last-grant (x .state)) c) (answer-alone (s .shape) g (next-grant (x .state)) (answer K s c d)) (effect K s c d)
-    own-after (submit c y) d p le i = submit-own K twins c y d p i
-    own-after dispatch d p le i = dispatch-own K twins d p i
-    own-after (pulse v) d p le i = pulse-own K twins (leaf-known (p .opened)) (p .opened) (sym (served (p .opened)) ∙ i) v d le
-    own-after (end-turn v) d p le i = end-own K twins (leaf-known (p .0 .opened)) (p .0 .opened) (sym (served (p .0 .opened)) ∙ i) v d p
-    own-after (give-up v) d p le i = give-up-own K twins (leaf-known (p .0 .opened)) (p .0 .opened) (sym (served (p .0 .opened)) ∙ i) v d
+        Follows K restriction (call-alone (s .shape) g (last-grant (x .state)) c) (answer-alone (s .shape) g (next-grant (x .state)) (answer K s c d)) (effect K s c d)
+    own-after (submit c y) d p le i = submit-own K restriction c y d p i
+    own-after dispatch d p le i = dispatch-own K restriction d p i
+    own-after (pulse v) d p le i = pulse-own K restriction (leaf-known (p .opened)) (p .opened) (sym (served (p .opened)) ∙ i) v d le
+    own-after (end-turn v) d p le i = end-own K restriction (leaf-known (p .0 .opened)) (p .0 .opened) (sym (served (p .0 .opened)) ∙ i) v d p
+    own-after (give-up v) d p le i = give-up-own K restriction (leaf-known (p .0 .opened)) (p .0 .opened) (sym (served (p .0 .opened)) ∙ i) v d
 
     -- any other call leaves g's part as it is
-    other-after : (c : Call I) (d : ℕ) → Ready K s c → owns (s .shape) g (entry c (answer K s c d)) h ≡ false → Mirrors g (effect K s c d) (x .state)
-    other-after (submit c y) d p i = submit-other K twins c y d p i
-    other-after dispatch d p i = dispatch-other K twins d p i
-    other-after (pulse v) d p i = pulse-other K twins (leaf-known (p .opened)) (p .opened) (sym (served (p .opened)) ∙ i) v d
-    other-after (end-turn v) d p i = end-other K twins (leaf-known (p .0 .opened)) (p .0 .opened) (sym (served (p .0 .opened)) ∙ i) v d
-    other-after (give-up v) d p i = settle-other K twins (leaf-known (p .0 .opened)) (p .0 .opened) (sym (served (p .0 .opened)) ∙ i) (s .lane) (s .queued) (λ _ _. refl) (λ _ _. refl)
+    other-after : (c : Call I) (d : ℕ) → Ready K s c → owns (s .shape) g (entry c (answer K s c d)) h ≡ false → Restricts g (effect K s c d) (x .state)
+    other-after (submit c y) d p i = submit-other K restriction c y d p i
+    other-after dispatch d p i = dispatch-other K restriction d p i
+    other-after (pulse v) d p i = pulse-other K restriction (leaf-known (p .opened)) (p .opened) (sym (served (p .opened)) ∙ i) v d
+    other-after (end-turn v) d p i = end-other K restriction (leaf-known (p .0 .opened)) (p .0 .opened) (sym (served (p .0 .opened)) ∙ i) v d
+    other-after (give-up v) d p i = settle-other K restriction (leaf-known (p .0 .opened)) (p .0 .opened) (sym (served (p .0 .opened)) ∙ i) (s .lane) (s .queued) (λ _ _. refl) (λ _ _. refl)
 
     -- a call that is not own leaves the tree alone as it is
-    passed-by : (e : Entry I) (s′ : State I) → Step K s (e .call) (e .answer) s′ → owns (o .shape) g e h ≡ false → Mirrors g s′ (x .state) → Alike (e ∷ h) s′
-    passed-by e s′ st i m = record { state = x .state; calls = x .calls; run = x .run; mirrors = m; beside = other-call (x .beside) st i (agree (made r st) m) }
+    passed-by : (e : Entry I) (s′ : State I) → Step K s (e .call) (e .answer) s′ → owns (o .shape) g e h ≡ false → Restricts g s′ (x .state) → Alike (e ∷ h) s′
+    passed-by e s′ st i m = record { state = x .state; calls = x .calls; run = x .run; restricts = m; beside = other-call (x .beside) st i (agree (made r st) m) }
 
     -- each accepted call keeps the two alike
     alike-after : (c : Call I) (d : ℕ) → Ready K s c → d ≤ to-do s → Step K s c (answer K s c d) (effect K s c d) → Alike (entry c (answer K s c d) ∷ h) (effect K s c d)
     alike-after c d p le st =
-        let shape = steady K o r .frame .1 in
+        let shape = consistent K o r .frame .1 in
         let e = entry c (answer K s c d) in
         elim (cases-bool (owns (o .shape) g e h)) [
           | inl i ↦
               let a = x .state in
               let c′ = call-alone (o .shape) g (last-grant a) c in
               let x′ = answer-alone (o .shape) g (next-grant a) (answer K s c d) in
-              let f = subst (λ t. Follows K twins (call-alone t g (last-grant a) c) (answer-alone t g (next-grant a) (answer K s c d)) (effect K s c d)) shape (own-after c d p le (subst (λ t. owns t g e h ≡ true) (sym shape) i)) in
+              let f = subst (λ t. Follows K restriction (call-alone t g (last-grant a) c) (answer-alone t g (next-grant a) (answer K s c d)) (effect K s c d)) shape (own-after c d p le (subst (λ t. owns t g e h ≡ true) (sym shape) i)) in
               let st′ = subst (λ y. Step K a c′ y (effect K a c′ (f .amount))) (f .says) (accept K a c′ (f .amount) (f .ready) (f .within)) in
-              record { state = effect K a c′ (f .amount); calls = entry c′ x′ ∷ x .calls; run = made (x .run) st′; mirrors = f .mirrors; beside = own-call (x .beside) st i st′ (agree (made r st) (f .mirrors)) }
+              record { state = effect K a c′ (f .amount); calls = entry c′ x′ ∷ x .calls; run = made (x .run) st′; restricts = f .restricts; beside = own-call (x .beside) st i st′ (agree (made r st) (f .restricts)) }
           | inr i ↦ passed-by e (effect K s c d) st i (other-after c d p (subst (λ t. owns t g e h ≡ false) (sym shape) i))
         ]
 
@@ -324,13 +324,13 @@ module _ {I : Type 0} (K : Kind I) (o : Opening) (ok : Valid o) (g : ℕ) (known
     state = fresh new;
     calls = [];
     run = opened;
-    mirrors = record { tags = record { start = λ k i apart. refl; finish = λ k i apart. refl; virtual = λ k i. refl }; lane = λ k i. refl; queued = λ k i. refl; phase = refl; meter = omega arith; turns = omega arith };
+    restricts = record { tags = record { start = λ k i apart. refl; finish = λ k i apart. refl; virtual = λ k i. refl }; lane = λ k i. refl; queued = λ k i. refl; phase = refl; meter = omega arith; turns = omega arith };
     beside = both-opened;
   }
   alike (made {h = h} {s = s} {s′ = s′} {e = e} r st) =
       let x = alike r in
       by-step K s (λ c y s′. Step K s c y s′ → Alike (entry c y ∷ h) s′)
-      (λ c n now. passed-by r x (entry c (refused n)) s now refl (x .mirrors))
+      (λ c n now. passed-by r x (entry c (refused n)) s now refl (x .restricts))
       (λ c d p le now. alike-after r x c d p le now) (e .call) (e .answer) s′ st st
 
 -- the own calls of each class, played alone

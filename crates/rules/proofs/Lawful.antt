@@ -5,7 +5,7 @@ use Rattle.rules.specs.History.{made}
 use Rattle.rules.specs.Picks.{Picks}
 use Rattle.rules.specs.Laws.{Lawful, Onward}
 use Rattle.rules.proofs.Picks.{picks, chosen-only}
-use Rattle.rules.proofs.Steady.{steady, sound}
+use Rattle.rules.proofs.Consistent.{consistent, sound}
 use Rattle.rules.proofs.Fairness.{fair}
 use Rattle.rules.proofs.Isolation.{isolated}
 use Rattle.rules.proofs.Conservation.{conserved}
@@ -15,8 +15,8 @@ use Rattle.rules.proofs.Grants.{keyed, foreign}
 -- the leaf that a dispatch serves is the one that is chosen
 pub picked-chosen : {I : Type 0} (K : Kind I) → Picks K
 picked-chosen K o ok h s r b =
-    let tree = sound K o ok (steady K o r) in
-    let is = picks s tree (steady K o r .leaves) b .0 in
+    let tree = sound K o ok (consistent K o r) in
+    let is = picks s tree (consistent K o r .leaves) b .0 in
     (is, λ c x. chosen-only s tree c (picked s) x is)
 
 module _ {I : Type 0} {K : Kind I} (laws : KindLaws K) where

@@ -35,7 +35,7 @@ module _ {I : Type 0} (s : State I) (node : ℕ) where
       (λ e.
       let (fit, less) = and-parts _ _ e in
       let (kid, busy) = and-parts _ _ fit in
-      let lt = ltb-true _ _ less in
+      let lt : s .tags .start n < s .tags .start b = ltb-true _ _ less in
       record {
         below = omega arith;
         kid = kid;
@@ -59,7 +59,7 @@ module _ {I : Type 0} (s : State I) (node : ℕ) where
   best-is zero = λ k l c b. omega arith
   best-is (suc n) = better-is n (best s node n) (best-is n)
 
-  -- where the node has a backlogged child, the next class on the way is the best of them
+  -- where the node has a backlogged child, the next class on the path is the best of them
   pub next-is : (k : ℕ) → k < s .shape .count → child (s .shape) node k ≡ true → backlogged s k ≡ true → Best s node (s .shape .count) (next s node)
   next-is k l c b = go (best s node (s .shape .count)) (best-is (s .shape .count))
     where
@@ -106,15 +106,15 @@ module _ {I : Type 0} (s : State I) (ok : Sound (s .shape)) (leaves : (l : ℕ) 
   goes-on p b inner = let (c, h, busy) = busy-child ok (s .queued) leaves p b inner in next-is s p c (busy-known ok (s .queued) c busy) h busy
 
   -- a path from the node down to r: r is a backlogged leaf, and every class on the path is its parent's best
-  record Landed (node r : ℕ) : Type 0 where
+  record Descent (node r : ℕ) : Type 0 where
     ends : leaf (s .shape) r ≡ true
     busy : backlogged s r ≡ true
     path : (k : ℕ) → Below (s .shape) k r → Below (s .shape) k node ⊎ Best s (s .shape .parent k) (s .shape .count) k
 
   -- n steps down from a backlogged node that lies deep enough come to such a leaf
-  descends : (n node : ℕ) → backlogged s node ≡ true → ((i : ℕ) → climb (s .shape) i node ≡ 0 → 8 ≤ i + n) → Landed node (descend s n node)
+  descends : (n node : ℕ) → backlogged s node ≡ true → ((i : ℕ) → climb (s .shape) i node ≡ 0 → 8 ≤ i + n) → Descent node (descend s n node)
   descends zero node b deep = absurd (omega (arith, deep 7 (ok .shallow node (busy-known ok (s .queued) node b))))
-  descends (suc n) node b deep = cond-both (leaf (s .shape) node) node (descend s n (next s node)) (Landed node)
+  descends (suc n) node b deep = cond-both (leaf (s .shape) node) node (descend s n (next s node)) (Descent node)
       (λ e. record { ends = e; busy = b; path = λ k x. inl x })
       (λ e.
       let g = goes-on node b e in

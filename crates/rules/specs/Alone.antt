@@ -10,7 +10,7 @@ use Rattle.rules.specs.Shape.{Shape, under}
 use Rattle.rules.specs.Kind.{Kind}
 use Rattle.rules.specs.State.{Turn, State, Opening, fresh, open-turn}
 use Rattle.rules.specs.Rules.{Grant, Call, submit, dispatch, pulse, end-turn, give-up, Answer, refused, accepted, granted, worked, closed, Step}
-use Rattle.rules.specs.History.{Entry, entry, serves}
+use Rattle.rules.specs.History.{Entry, serves}
 
 -- how many of the classes below number n lie at or below g: where n does so itself, its number in the tree that has g for its root
 abbrev pub rank : Shape → ℕ → ℕ → ℕ

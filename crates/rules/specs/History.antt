@@ -146,40 +146,40 @@ none (x ∷ xs) = false
 
 module _ {I : Type 0} (K : Kind I) where
   -- the items of leaf l after an accepted call: a submission to l puts its item behind the others
-  abbrev pub joined : ℕ → Call I → List (Waiting I) → List (Waiting I)
-  joined l (submit c x) ws = cond (eqb c l) (ws ++ record { item = x; cost = K .costs x; ended = 0 } ∷ []) ws
-  joined l dispatch ws = ws
-  joined l (pulse g) ws = ws
-  joined l (end-turn g) ws = ws
-  joined l (give-up g) ws = ws
+  abbrev pub after-submission : ℕ → Call I → List (Waiting I) → List (Waiting I)
+  after-submission l (submit c x) ws = cond (eqb c l) (ws ++ record { item = x; cost = K .costs x; ended = 0 } ∷ []) ws
+  after-submission l dispatch ws = ws
+  after-submission l (pulse g) ws = ws
+  after-submission l (end-turn g) ws = ws
+  after-submission l (give-up g) ws = ws
 
   -- the items after d units of the first are done in an ended turn: it leaves when all its cost is done
-  abbrev pub worn : List (Waiting I) → ℕ → List (Waiting I)
-  worn [] d = []
-  worn (w ∷ ws) d = cond (eqb (w .ended + d) (w .cost)) ws (record { item = K .left (w .item) d; cost = w .cost; ended = w .ended + d } ∷ ws)
+  abbrev pub after-ending : List (Waiting I) → ℕ → List (Waiting I)
+  after-ending [] d = []
+  after-ending (w ∷ ws) d = cond (eqb (w .ended + d) (w .cost)) ws (record { item = K .left (w .item) d; cost = w .cost; ended = w .ended + d } ∷ ws)
 
   -- the same at leaf l, if the turn served it
-  abbrev pub worn-in : ℕ → Option Service → ℕ → List (Waiting I) → List (Waiting I)
-  worn-in l None d ws = ws
-  worn-in l (Some u) d ws = cond (eqb (u .leaf) l) (worn ws d) ws
+  abbrev pub ended-in : ℕ → Option Service → ℕ → List (Waiting I) → List (Waiting I)
+  ended-in l None d ws = ws
+  ended-in l (Some u) d ws = cond (eqb (u .leaf) l) (after-ending ws d) ws
 
   -- the items of leaf l after a closing: only an ending of a turn that served l changes them
-  abbrev pub left-by : ℕ → Call I → Option Service → ℕ → List (Waiting I) → List (Waiting I)
-  left-by l (end-turn g) u d ws = worn-in l u d ws
-  left-by l (submit c x) u d ws = ws
-  left-by l dispatch u d ws = ws
-  left-by l (pulse g) u d ws = ws
-  left-by l (give-up g) u d ws = ws
+  abbrev pub after-closing : ℕ → Call I → Option Service → ℕ → List (Waiting I) → List (Waiting I)
+  after-closing l (end-turn g) u d ws = ended-in l u d ws
+  after-closing l (submit c x) u d ws = ws
+  after-closing l dispatch u d ws = ws
+  after-closing l (pulse g) u d ws = ws
+  after-closing l (give-up g) u d ws = ws
 
   -- the items that are in leaf l after h
   abbrev pub waiting : ℕ → List (Entry I) → List (Waiting I)
   waiting l [] = []
   waiting l (e ∷ h) = elim (e .answer) [
     | refused e ↦ waiting l h
-    | accepted ↦ joined l (e .call) (waiting l h)
+    | accepted ↦ after-submission l (e .call) (waiting l h)
     | granted g k c ↦ waiting l h
     | worked d ↦ waiting l h
-    | closed d ↦ left-by l (e .call) (turn-after h) d (waiting l h)
+    | closed d ↦ after-closing l (e .call) (turn-after h) d (waiting l h)
   ]
 
   -- an item is in a leaf at or below k

@@ -7,3 +7,5 @@ pub mod History
 pub mod Picks
 pub mod Alone
 pub mod Laws
+pub mod Figures
+pub mod Example

@@ -1,4 +1,8 @@
 //! The rules of the five calls on a class tree, and the laws that no history of calls breaks.
+ghost use mathlib.Core.Path.{_≡_};
+ghost use mathlib.Core.Bool.{true};
+ghost use Rattle.rules.specs.Figures.{figures, «all-agree»};
+ghost use Rattle.rules.specs.Example.{played, expected};
 ghost use Rattle.rules.specs.Laws.{Lawful, Onward};
 ghost use Rattle.rules.specs.Picks.{Picks};
 ghost use Rattle.rules.specs.Ready.{Accepts};
@@ -22,6 +26,14 @@ pub fn laws_stand<I: Item>() -> u8
 /// A call that follows the rules leads from any history to one that keeps the laws.
 pub fn laws_last<I: Item>() -> u8
     ensures { λ _. ⌜ Onward I·Item ⌝ }
+{
+    0
+}
+
+/// The figures of the rules are what they have to be, and the worked example comes out as it is told.
+pub fn figures_stand() -> u8
+    ensures figures { λ _. ⌜ «all-agree» figures ≡ true ⌝ }
+    ensures example { λ _. ⌜ played ≡ expected ⌝ }
 {
     0
 }

@@ -1,4 +1,4 @@
--- The tree with g for its root mirrors the whole tree at and below g: what it picks, and what each call does to its tags. Assumes nothing.
+-- The tree alone, with g for its root, is the whole tree restricted to g's part: what it picks, and what each call does to its tags. Assumes nothing.
 use mathlib.Core.Path.{_≡_, refl, sym, ap, ap₂, subst, _∙_}
 use mathlib.Core.Logic.{inl, inr}
 use mathlib.Core.Bool.{true, false, not, _&&_, cond}
@@ -36,7 +36,7 @@ own-phase t g None = None
 own-phase t g (Some u) = cond (under t g (u .leaf)) (Some (record { leaf = rank t g (u .leaf); cost = u .cost; done = u .done })) None
 
 -- the tree alone has the tags, the items, the counts and the open turn of g's part
-pub record Mirrors {I : Type 0} (g : ℕ) (s a : State I) : Type 0 where
+pub record Restricts {I : Type 0} (g : ℕ) (s a : State I) : Type 0 where
   pub tags : Tagged (s .shape) g (s .tags) (a .tags)
   pub lane : (k : ℕ) → Inside (s .shape) g k → a .lane (num s g k) ≡ s .lane k
   pub queued : (k : ℕ) → Inside (s .shape) g k → a .queued (num s g k) ≡ s .queued k
@@ -45,7 +45,7 @@ pub record Mirrors {I : Type 0} (g : ℕ) (s a : State I) : Type 0 where
   pub turns : a .turns ≤ s .turns
 
 -- two trees that histories led to, the one g's part of the other
-pub record Twins {I : Type 0} (g : ℕ) (s a : State I) : Type 0 where
+pub record Restriction {I : Type 0} (g : ℕ) (s a : State I) : Type 0 where
   pub part : Part (s .shape) g (a .shape)
   pub places : a .places ≡ s .places
   pub weight : (k : ℕ) → Inside (s .shape) g k → a .weight (num s g k) ≡ s .weight k
@@ -53,9 +53,9 @@ pub record Twins {I : Type 0} (g : ℕ) (s a : State I) : Type 0 where
   pub leaves-alone : (l : ℕ) → 0 < a .queued l → leaf (a .shape) l ≡ true
   pub known-alone : (l : ℕ) → 0 < a .queued l → l < a .shape .count
   pub full-alone : (l : ℕ) → length (a .lane l) ≡ a .queued l
-  pub mirrors : Mirrors g s a
+  pub restricts : Restricts g s a
 
-module _ {I : Type 0} {g : ℕ} {s a : State I} (w : Twins g s a) where
+module _ {I : Type 0} {g : ℕ} {s a : State I} (w : Restriction g s a) where
   -- the whole tree is sound
   tree : Sound (s .shape)
   tree = w .part .whole
@@ -66,11 +66,11 @@ module _ {I : Type 0} {g : ℕ} {s a : State I} (w : Twins g s a) where
 
   -- the tags are the same
   tags : Tagged (s .shape) g (s .tags) (a .tags)
-  tags = w .mirrors .tags
+  tags = w .restricts .tags
 
   -- what is backlogged is the same
   busy : (k : ℕ) → In k → backlogged a (num s g k) ≡ backlogged s k
-  busy = busy-part (w .part) (s .queued) (a .queued) (w .mirrors .queued)
+  busy = busy-part (w .part) (s .queued) (a .queued) (w .restricts .queued)
 
   -- so is the virtual time above
   up-virtual : (k : ℕ) → In k → (k ≡ g → ⊥) → a .tags .virtual (a .shape .parent (num s g k)) ≡ s .tags .virtual (s .shape .parent k)
@@ -79,7 +79,7 @@ module _ {I : Type 0} {g : ℕ} {s a : State I} (w : Twins g s a) where
   -- the shelf of the tree alone holds no more
   pub stored-part : stored a ≤ stored s
   unfolding stored
-  stored-part = sum-part (w .part) (λ l. length (s .lane l)) (λ l. length (a .lane l)) (λ k i. ap length (w .mirrors .lane k i)) past 64 (tree .few)
+  stored-part = sum-part (w .part) (λ l. length (s .lane l)) (λ l. length (a .lane l)) (λ k i. ap length (w .restricts .lane k i)) past 64 (tree .few)
     where
       past : (j : ℕ) → a .shape .count ≤ j → length (a .lane j) ≡ 0
       past j le = elim (cases-eq (a .queued j) 0) [ inl e ↦ omega (arith, w .full-alone j) | inr some ↦ absurd (omega (arith, w .known-alone j (omega arith))) ]
@@ -151,11 +151,11 @@ module _ {I : Type 0} {g : ℕ} {s a : State I} (w : Twins g s a) where
       virtual = λ k i. tags .virtual k i ∙ sym (cond-false _ _ _ (and-left _ _ (away (w .part) k (picked s) i picked-known off)));
     }
 
-  -- a class is on the way to c in the tree alone as in the whole
+  -- a class is on the path to c in the tree alone as in the whole
   on-part : (c : ℕ) → In c → (k : ℕ) → In k → (k ≡ g → ⊥) → ltb 0 (num s g k) && under (a .shape) (num s g k) (num s g c) ≡ ltb 0 k && under (s .shape) k c
   on-part c j k i apart = ap₂ _&&_ (pos-part (w .part) k i apart) (under-part (w .part) k c i j)
 
-  -- no class here is on the way to a class elsewhere
+  -- no class here is on the path to a class elsewhere
   off-part : (c : ℕ) → c < s .shape .count → under (s .shape) g c ≡ false → (k : ℕ) → In k → ltb 0 k && under (s .shape) k c ≡ false
   off-part c lt off k i = and-right _ _ (away (w .part) k c i lt off)
 
