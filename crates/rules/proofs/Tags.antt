@@ -69,8 +69,8 @@ module _ {I : Type 0} (s : State I) where
 -- dispatch, where only leaves hold items, something is backlogged, and no start tag is below the parent's virtual time
 module _ {I : Type 0} (s : State I) (ok : Sound (s .shape)) (leaves : (l : ℕ) → 0 < s .queued l → leaf (s .shape) l ≡ true) (busy : backlogged s 0 ≡ true) where
   -- on the path each start tag is the parent's new virtual time
-  pub virtual-way : (k : ℕ) → 0 < k → under (s .shape) k (picked s) ≡ true → s .tags .start k ≡ advanced s .virtual (s .shape .parent k)
-  virtual-way k z u =
+  pub virtual-path : (k : ℕ) → 0 < k → under (s .shape) k (picked s) ≡ true → s .tags .start k ≡ advanced s .virtual (s .shape .parent k)
+  virtual-path k z u =
       let known = picks s ok leaves busy .0 .known in
       let top = under-parent ok k (picked s) known u in
       let n : s .tags .start (next s (s .shape .parent k)) ≡ s .tags .start k = ap (s .tags .start) (path-next s ok leaves busy k z u) in

@@ -26,7 +26,7 @@ use Rattle.rules.proofs.Tags
 abbrev pub slack : {I : Type 0} → List (Entry I) → State I → ℕ → ℕ
 slack h s k = charged (largest (s .shape) k h) (s .weight k)
 
--- on the open turn's way each start tag is the parent's virtual time; start tags of backlogged classes lie at or after it; no tag lies after it by more than the largest charge
+-- on the open turn's path each start tag is the parent's virtual time; start tags of backlogged classes lie at or after it; no tag lies after it by more than the largest charge
 pub record Near {I : Type 0} (h : List (Entry I)) (s : State I) : Type 0 where
   pub path : (u : Turn) → s .phase ≡ Some u → (k : ℕ) → 0 < k → under (s .shape) k (u .leaf) ≡ true → s .tags .start k ≡ s .tags .virtual (s .shape .parent k)
   pub start-low : (k : ℕ) → 0 < k → backlogged s k ≡ true → s .tags .virtual (s .shape .parent k) ≤ s .tags .start k
@@ -128,7 +128,7 @@ module _ {I : Type 0} (K : Kind I) (o : Opening) (ok : Valid o) where
         let leaves = consistent K o r .leaves in
         let grows = Tags.virtual-grows s tree leaves (p .busy) (q .start-low) in
         record {
-          path = λ u is k z on. Tags.virtual-way s tree leaves (p .busy) k z (subst (λ (v : Turn). under (s .shape) k (v .leaf) ≡ true) (sym (some-same is)) on);
+          path = λ u is k z on. Tags.virtual-path s tree leaves (p .busy) k z (subst (λ (v : Turn). under (s .shape) k (v .leaf) ≡ true) (sym (some-same is)) on);
           start-low = Tags.virtual-low s tree leaves (p .busy) (q .start-low);
           start-high = λ k z b. omega (arith, same-start-high (entry dispatch (answer K s dispatch d)) k z b, grows (s .shape .parent k));
           finish-high = λ k z lt. omega (arith, same-finish-high (entry dispatch (answer K s dispatch d)) k z lt, grows (s .shape .parent k));
