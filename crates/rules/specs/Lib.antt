@@ -1,0 +1,11 @@
+pub mod Shape
+pub mod Kind
+pub mod State
+pub mod Rules
+pub mod Ready
+pub mod History
+pub mod Picks
+pub mod Alone
+pub mod Laws
+pub mod Figures
+pub mod Example
