@@ -1,0 +1,57 @@
+//! Which class is at which place of which heap, and back.
+ghost use mathlib.Core.Path.{_≡_};
+ghost use mathlib.Core.List.{List, []};
+ghost use Prim.Native.Nat.{ℕ, _<_};
+ghost use lib.ListN.{length, getD};
+ghost use Rattle.heap.specs.Slots.{cell, spot};
+
+/// The places of 64 heaps, each with room for 64 classes, and for each class its place.
+#[derive(Drop)]
+pub struct Slots {
+    cells: [[u8; 64]; 64],
+    places: [u8; 64],
+    ghost heaps: { length cells ≡ 64 },
+    ghost rows: { (g : ℕ) → g < 64 → length (getD cells g []) ≡ 64 },
+    ghost classes: { length places ≡ 64 },
+    ghost known: { (g i : ℕ) → cell cells g i < 64 },
+    ghost within: { (k : ℕ) → spot places k < 64 },
+}
+
+impl Slots {
+    pub fn new() -> Slots {
+        Slots {
+            cells: [[0; 64]; 64],
+            places: [0; 64],
+        }
+    }
+
+    /// The class at a place of a group's heap.
+    pub fn class_at(&self, group: u8, place: u8) -> u8
+        requires { ⌜ (group < 64) × (place < 64) ⌝ }
+        ensures value { λ r. ⌜ r ≡ cell (now (self .entry) .cells) group place ⌝ }
+        ensures known { λ r. ⌜ r < 64 ⌝ }
+    {
+        self.cells[group as usize][place as usize]
+    }
+
+    /// The place of a class in the heap that it was written to last.
+    pub fn place_of(&self, class: u8) -> u8
+        requires { ⌜ class < 64 ⌝ }
+        ensures value { λ r. ⌜ r ≡ spot (now (self .entry) .places) class ⌝ }
+        ensures within { λ r. ⌜ r < 64 ⌝ }
+    {
+        self.places[class as usize]
+    }
+
+    /// Puts a class at a place of a group's heap.
+    pub fn write(&mut self, group: u8, place: u8, class: u8)
+        requires { ⌜ (group < 64) × (place < 64) × (class < 64) ⌝ }
+        ensures here { λ _. ⌜ cell (now (self .exit) .cells) group place ≡ class ⌝ }
+        ensures cells { λ _. ⌜ ((g i : ℕ) → (g ≡ group → i ≡ place → ⊥) → cell (now (self .exit) .cells) g i ≡ cell (now (self .entry) .cells) g i) ⌝ }
+        ensures there { λ _. ⌜ spot (now (self .exit) .places) class ≡ place ⌝ }
+        ensures places { λ _. ⌜ ((k : ℕ) → (k ≡ class → ⊥) → spot (now (self .exit) .places) k ≡ spot (now (self .entry) .places) k) ⌝ }
+    {
+        self.cells[group as usize][place as usize] = class;
+        self.places[class as usize] = place;
+    }
+}
