@@ -3,7 +3,7 @@ ghost use mathlib.Core.Path.{_≡_};
 ghost use mathlib.Core.List.{List, []};
 ghost use Prim.Native.Nat.{ℕ, _<_};
 ghost use lib.ListN.{length, getD};
-ghost use Rattle.heap.specs.Slots.{cell, spot};
+ghost use Rattle.heap.specs.Slots.{cell, spot, Write};
 
 /// The places of 64 heaps, each with room for 64 classes, and for each class its place.
 #[derive(Drop)]
@@ -46,10 +46,7 @@ impl Slots {
     /// Puts a class at a place of a group's heap.
     pub fn write(&mut self, group: u8, place: u8, class: u8)
         requires { ⌜ (group < 64) × (place < 64) × (class < 64) ⌝ }
-        ensures here { λ _. ⌜ cell (now (self .exit) .cells) group place ≡ class ⌝ }
-        ensures cells { λ _. ⌜ ((g i : ℕ) → (g ≡ group → i ≡ place → ⊥) → cell (now (self .exit) .cells) g i ≡ cell (now (self .entry) .cells) g i) ⌝ }
-        ensures there { λ _. ⌜ spot (now (self .exit) .places) class ≡ place ⌝ }
-        ensures places { λ _. ⌜ ((k : ℕ) → (k ≡ class → ⊥) → spot (now (self .exit) .places) k ≡ spot (now (self .entry) .places) k) ⌝ }
+        ensures { λ _. ⌜ Write (cell (now (self .entry) .cells)) (cell (now (self .exit) .cells)) (spot (now (self .entry) .places)) (spot (now (self .exit) .places)) group place class ⌝ }
     {
         self.cells[group as usize][place as usize] = class;
         self.places[class as usize] = place;
