@@ -1,8 +1,42 @@
--- The index that the heaps hold. Assumes nothing.
+-- The index that the heaps hold, and its room. Assumes nothing.
+use mathlib.Core.Path.{_≡_, sym, ap, _∙_}
+use mathlib.Core.List.{List}
+use mathlib.Core.Logic.{inl, inr}
+use Prim.Native.Nat.{ℕ, _<_}
+use native.Mathlib.Omega.{arith}
+use lib.ListN.{length, getD, set}
+use Rattle.std.proofs.shelf.Lists.{getD-set-same, getD-set-other, getD-past}
+use Rattle.std.proofs.shelf.Tests.{cases-lt}
+use Rattle.std.specs.declared.option.Option.the-variants.{None}
+use Rattle.tags.proofs.Room.{room}
 use Rattle.heap.specs.declared.heaps.Heaps.{Heaps}
-use Rattle.heap.specs.Index.{groupAt, size}
+use Rattle.heap.specs.Index.{pairAt, groupOr, groupAt, size}
 use Rattle.heap.specs.Slots.{cell, spot}
-use Rattle.heap.proofs.Index.{Index}
+use Rattle.heap.proofs.Index.{Index, Sets}
 
-pub index-of : (h : Heaps) → Index (groupAt (h .pairs)) (spot (h .slots .places)) (size (h .lens)) (cell (h .slots .cells))
-index-of h = record { member = h .member; placed = h .placed; listed = h .listed; found = h .found }
+-- what a write to a table leaves, read by F
+pub set-sets : {X : Type 0} (F : X → ℕ) (d : X) (xs : List X) (i : ℕ) (v : X) → i < length xs → Sets (λ k. F (getD xs k d)) (λ k. F (getD (set xs i v) k d)) i (F v)
+set-sets F d xs i v l = record {
+  here = ap F (getD-set-same xs i v d l);
+  else = λ k n. ap F (getD-set-other xs i k v d n)
+}
+
+module _ (h : Heaps) where
+  pub index-of : Index (groupAt (h .pairs)) (spot (h .slots .places)) (size (h .lens)) (cell (h .slots .cells))
+  index-of = record { member = h .member; placed = h .placed; listed = h .listed; found = h .found }
+
+  -- only groups below 64 have classes
+  pub group-known : (g i : ℕ) → i < size (h .lens) g → g < 64
+  group-known g i l =
+      elim (cases-lt g 64) [
+        | inl known ↦ known
+        | inr past ↦ let n = h .groups in let e = getD-past (h .lens) g 0 (omega arith) in absurd (omega arith)
+      ]
+
+  -- while a class does not stand, no heap is full
+  pub heap-room : (g k : ℕ) → g < 64 → k < 64 → pairAt (h .pairs) k ≡ None → size (h .lens) g < 64
+  heap-room g k gl kl free =
+      room (cell (h .slots .cells) g) (size (h .lens) g) k kl
+      (λ i l. h .slots .known g i)
+      (λ i j low high e. let a = h .placed g i (omega arith) in let b = h .placed g j high in let d = ap (spot (h .slots .places)) e in omega arith)
+      (λ i l e. let a = h .member g i l in let b = ap (groupAt (h .pairs)) e in let d = ap groupOr free in omega arith)

@@ -29,6 +29,18 @@ pub struct Heaps {
 }
 
 impl Heaps {
+    /// No class stands.
+    pub fn new() -> Heaps
+        ensures pairs { λ r. ⌜ ((k : ℕ) → pairAt (r .pairs) k ≡ None) ⌝ }
+        ensures lens { λ r. ⌜ ((g : ℕ) → size (r .lens) g ≡ 0) ⌝ }
+    {
+        Heaps {
+            pairs: [None; 64],
+            slots: Slots::new(),
+            lens: [0; 64],
+        }
+    }
+
     /// The pair of a class.
     pub fn pair(&self, class: u8) -> Option<(u8, Parts)>
         requires { ⌜ class < 64 ⌝ }
@@ -78,5 +90,32 @@ impl Heaps {
         let b = self.slots.class_at(group, j);
         self.slots.write(group, i, b);
         self.slots.write(group, j, a);
+    }
+
+    /// Puts a class that does not stand at the end of a group's heap.
+    pub fn append(&mut self, group: u8, class: u8, tag: Parts)
+        requires known { ⌜ (group < 64) × (class < 64) ⌝ }
+        requires free { ⌜ pairAt (now self .pairs) class ≡ None ⌝ }
+        ensures pairs { λ _. ⌜ now (self .exit) .pairs ≡ set (now (self .entry) .pairs) class (Some (group, tag)) ⌝ }
+        ensures lens { λ _. ⌜ now (self .exit) .lens ≡ set (now (self .entry) .lens) group (size (now (self .entry) .lens) group + 1) ⌝ }
+        ensures keys { λ _. ⌜ ((g i : ℕ) → i < size (now (self .entry) .lens) g → key (now (self .exit) .pairs) (now (self .exit) .slots .cells) g i ≡ key (now (self .entry) .pairs) (now (self .entry) .slots .cells) g i) ⌝ }
+    {
+        let place = self.lens[group as usize];
+        self.slots.write(group, place, class);
+        self.pairs[class as usize] = Some((group, tag));
+        self.lens[group as usize] = place + 1;
+    }
+
+    /// Removes the last class of a group's heap, with its pair.
+    pub fn drop_last(&mut self, group: u8)
+        requires { ⌜ (group < 64) × (0 < size (now self .lens) group) ⌝ }
+        ensures pairs { λ _. ⌜ now (self .exit) .pairs ≡ set (now (self .entry) .pairs) (cell (now (self .entry) .slots .cells) group (size (now (self .entry) .lens) group - 1)) None ⌝ }
+        ensures lens { λ _. ⌜ now (self .exit) .lens ≡ set (now (self .entry) .lens) group (size (now (self .entry) .lens) group - 1) ⌝ }
+        ensures keys { λ _. ⌜ ((g i : ℕ) → i < size (now (self .exit) .lens) g → key (now (self .exit) .pairs) (now (self .exit) .slots .cells) g i ≡ key (now (self .entry) .pairs) (now (self .entry) .slots .cells) g i) ⌝ }
+    {
+        let last = self.lens[group as usize] - 1;
+        let class = self.slots.class_at(group, last);
+        self.pairs[class as usize] = None;
+        self.lens[group as usize] = last;
     }
 }
