@@ -69,7 +69,7 @@ module _ {grp spot len : ℕ → ℕ} {cell : ℕ → ℕ → ℕ} (x : Index gr
       member = λ h k l. at-place h k l .0;
       placed = λ h k l. at-place h k l .1;
       listed = λ k l. of-class k l .0;
-      found = λ k l. of-class k l .1
+      found = λ k l. of-class k l .1;
     }
 
   -- class k, which stood nowhere, at the end of the heap of group g
@@ -89,8 +89,8 @@ module _ {grp spot len : ℕ → ℕ} {cell : ℕ → ℕ → ℕ} (x : Index gr
     append-place h i l =
         let is : (y : ℕ) → cell′ h i ≡ y → grp′ y ≡ h → spot′ y ≡ i → (grp′ (cell′ h i) ≡ h) × (spot′ (cell′ h i) ≡ i) = λ y e m s. (ap grp′ e ∙ m, ap spot′ e ∙ s) in
         let kept : (h ≡ g → i ≡ len g → ⊥) → (grp′ (cell′ h i) ≡ h) × (spot′ (cell′ h i) ≡ i) = λ ne.
-          let b = before-end h i l ne in
-          is (cell h i) (w .cells h i ne) (p .else (cell h i) (stood h i b) ∙ x .member h i b) (w .places (cell h i) (stood h i b) ∙ x .placed h i b) in
+        let b = before-end h i l ne in
+        is (cell h i) (w .cells h i ne) (p .else (cell h i) (stood h i b) ∙ x .member h i b) (w .places (cell h i) (stood h i b) ∙ x .placed h i b) in
         elim (cases-eq h g) [
           | inl same ↦ elim (cases-eq i (len g)) [
             | inl last ↦ let e : cell′ h i ≡ k = cc in is k e (p .here ∙ sym same) (w .there ∙ sym last)
@@ -103,23 +103,22 @@ module _ {grp spot len : ℕ → ℕ} {cell : ℕ → ℕ → ℕ} (x : Index gr
     append-class j l =
         elim (cases-eq j k) [
           | inl same ↦
-            let m : grp′ j ≡ g = ap grp′ same ∙ p .here in
-            let s : spot′ j ≡ len g = ap spot′ same ∙ w .there in
-            (let a = ap len′ m ∙ n .here in omega arith, (cc (w .here)))
+              let m : grp′ j ≡ g = ap grp′ same ∙ p .here in
+              let s : spot′ j ≡ len g = ap spot′ same ∙ w .there in
+              (let a = ap len′ m ∙ n .here in omega arith, (cc (w .here)))
           | inr other ↦
-            let m = p .else j other in
-            let s = w .places j other in
-            let b = x .listed j (omega arith) in
-            let f = x .found j (omega arith) in
-            let past : grp j ≡ g → spot j ≡ len g → ⊥ = λ e q. let a = ap len e in omega arith in
-            let e = w .cells (grp j) (spot j) past in
-            (
-              elim (cases-eq (grp j) g) [
-                | inl same ↦ let a = ap len same in let d = ap len′ (m ∙ same) ∙ n .here in omega arith
-                | inr away ↦ let a = n .else (grp j) away in let d = ap len′ m in omega arith
-              ],
-              (cc)
-            )
+              let m = p .else j other in
+              let s = w .places j other in
+              let b = x .listed j (omega arith) in
+              let f = x .found j (omega arith) in
+              let past : grp j ≡ g → spot j ≡ len g → ⊥ = λ e q. let a = ap len e in omega arith in
+              let e = w .cells (grp j) (spot j) past in (
+                elim (cases-eq (grp j) g) [
+                  | inl same ↦ let a = ap len same in let d = ap len′ (m ∙ same) ∙ n .here in omega arith
+                  | inr away ↦ let a = n .else (grp j) away in let d = ap len′ m in omega arith
+                ],
+                (cc),
+              )
         ]
 
     pub append-kept : Index grp′ spot′ len′ cell′
@@ -127,7 +126,7 @@ module _ {grp spot len : ℕ → ℕ} {cell : ℕ → ℕ → ℕ} (x : Index gr
       member = λ h i l. append-place h i l .0;
       placed = λ h i l. append-place h i l .1;
       listed = λ j l. append-class j l .0;
-      found = λ j l. append-class j l .1
+      found = λ j l. append-class j l .1;
     }
 
   -- the class at the end of the heap of group g stands no more
@@ -144,13 +143,12 @@ module _ {grp spot len : ℕ → ℕ} {cell : ℕ → ℕ → ℕ} (x : Index gr
         let ne : j ≡ cell g n → ⊥ = λ e. let a = ap grp′ e ∙ p .here in omega arith in
         let q = p .else j ne in
         let b = x .listed j (omega arith) in
-        let f = x .found j (omega arith) in
-        (
+        let f = x .found j (omega arith) in (
           elim (cases-eq (grp j) g) [
             | inl same ↦ let a = ap len same in let d = ap len′ (q ∙ same) ∙ m .here in let v : spot j ≡ n → ⊥ = λ e. ne (cc) in omega (arith, v)
             | inr away ↦ let a = m .else (grp j) away in let d = ap len′ q in omega arith
           ],
-          (cc)
+          (cc),
         )
 
     pub drop-kept : Index grp′ spot len′ cell
@@ -158,5 +156,5 @@ module _ {grp spot len : ℕ → ℕ} {cell : ℕ → ℕ → ℕ} (x : Index gr
       member = λ h i l. let s = shorter h i l in p .else (cell h i) (s .1) ∙ x .member h i (s .0);
       placed = λ h i l. x .placed h i (shorter h i l .0);
       listed = λ j l. drop-class j l .0;
-      found = λ j l. drop-class j l .1
+      found = λ j l. drop-class j l .1;
     }

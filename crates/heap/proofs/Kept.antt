@@ -11,6 +11,7 @@ use Rattle.std.specs.declared.option.Option.the-variants.{None}
 use Rattle.tags.proofs.Room.{room}
 use Rattle.heap.specs.declared.heaps.Heaps.{Heaps}
 use Rattle.heap.specs.Index.{pairAt, groupOr, groupAt, size}
+use Rattle.heap.specs.Keys.{count, Reordered}
 use Rattle.heap.specs.Slots.{cell, spot}
 use Rattle.heap.proofs.Index.{Index, Sets}
 
@@ -18,7 +19,7 @@ use Rattle.heap.proofs.Index.{Index, Sets}
 pub set-sets : {X : Type 0} (F : X → ℕ) (d : X) (xs : List X) (i : ℕ) (v : X) → i < length xs → Sets (λ k. F (getD xs k d)) (λ k. F (getD (set xs i v) k d)) i (F v)
 set-sets F d xs i v l = record {
   here = ap F (getD-set-same xs i v d l);
-  else = λ k n. ap F (getD-set-other xs i k v d n)
+  else = λ k n. ap F (getD-set-other xs i k v d n);
 }
 
 module _ (h : Heaps) where
@@ -40,3 +41,14 @@ module _ (h : Heaps) where
       (λ i l. h .slots .known g i)
       (λ i j low high e. let a = h .placed g i (omega arith) in let b = h .placed g j high in let d = ap (spot (h .slots .places)) e in omega arith)
       (λ i l e. let a = h .member g i l in let b = ap (groupAt (h .pairs)) e in let d = ap groupOr free in omega arith)
+
+-- what stays in one reordering and in the next
+pub reordered-again : (s t u : Heaps) (g : ℕ) → Reordered s t g → Reordered t u g → Reordered s u g
+reordered-again s t u g a b = record {
+  others = λ h i n. b .others h i n ∙ a .others h i n;
+  pairs = b .pairs ∙ a .pairs;
+  lens = b .lens ∙ a .lens;
+}
+
+pub count-kept : (s t : Heaps) (g : ℕ) → Reordered s t g → (h : ℕ) → count s h ≡ count t h
+count-kept s t g a h = ap (λ l. size l h) (sym (a .lens))

@@ -1,3 +1,4 @@
 pub mod Index
 pub mod Kept
+pub mod Sifts
 pub mod Writes

@@ -10,7 +10,6 @@ use Rattle.std.specs.declared.option.Option.the-variants.{Some, None}
 use Rattle.base.specs.declared.units.Parts.{Parts}
 use Rattle.tags.specs.Held.{Held}
 use Rattle.tags.specs.Order.{rank}
-use Rattle.heap.specs.Slots.{cell}
 
 -- the pair of class k
 abbrev pub pairAt : List (Option (ℕ × Parts)) → Held
@@ -38,10 +37,6 @@ groupAt pairs k = groupOr (pairAt pairs k)
 -- the rank of class k
 abbrev pub rankAt : List (Option (ℕ × Parts)) → ℕ → ℕ
 rankAt pairs k = rank (tagOr (pairAt pairs k)) k
-
--- the rank of the class at place i of the heap of group g
-abbrev pub key : List (Option (ℕ × Parts)) → List (List ℕ) → ℕ → ℕ → ℕ
-key pairs cells g i = rankAt pairs (cell cells g i)
 
 -- how many classes stand in group g
 abbrev pub size : List ℕ → ℕ → ℕ

@@ -12,5 +12,5 @@ least-by-rank h g c t stands known low = record {
   stands = stands;
   known = known;
   least = λ k u l e. let r = low k u l e in omega arith;
-  first = λ k u l e same. let r = low k u l e in omega arith
+  first = λ k u l e same. let r = low k u l e in omega arith;
 }

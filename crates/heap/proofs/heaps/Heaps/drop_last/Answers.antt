@@ -22,14 +22,13 @@ ghost-self c =
     let p = set-sets groupOr None (s .pairs) k None (let e = s .classes in omega arith) in
     let at = subst (λ j. Sets (groupAt (s .pairs)) (groupAt (set (s .pairs) k None)) j 64) (c .class-at-class .ensures .value) p in
     let m = set-sets (λ v. v) 0 (s .lens) g n (let e = s .groups in let gl = c .pre .0 in omega arith) in
-    let x = drop-kept (index-of s) g n (let l = c .pre .1 in omega arith) at m in
-    (
+    let x = drop-kept (index-of s) g n (let l = c .pre .1 in omega arith) at m in (
       length-set (s .pairs) k None ∙ s .classes,
       (
         length-set (s .lens) g n ∙ s .groups,
         (
           kept-set None (λ _ o. fits o ≡ true) (s .pairs) k None refl (s .grouped),
-          (kept-set 0 (λ _ v. v ≤ 64) (s .lens) g n (omega arith) (s .most), (x .member, (x .placed, (x .listed, (x .found, tt)))))
-        )
-      )
+          (kept-set 0 (λ _ v. v ≤ 64) (s .lens) g n (omega arith) (s .most), (x .member, (x .placed, (x .listed, (x .found, tt))))),
+        ),
+      ),
     )

@@ -12,8 +12,7 @@ ghost-self c =
     let g = c .args .group in
     let i = c .args .place in
     let k = c .args .class in
-    let row = getD (s .cells) g [] in
-    (
+    let row = getD (s .cells) g [] in (
       length-set (s .cells) g _ ∙ s .heaps,
       (
         kept-set [] (λ h r. h < 64 → length r ≡ 64) (s .cells) g _ (λ l. length-set row i k ∙ s .rows g l) (s .rows),
@@ -21,8 +20,8 @@ ghost-self c =
           length-set (s .places) k i ∙ s .classes,
           (
             (λ h j. kept-set [] (λ _ r. getD r j 0 < 64) (s .cells) g _ (kept-set 0 (λ _ n. n < 64) row i k (c .pre .2) (s .known g) j) (λ h. s .known h j) h),
-            (kept-set 0 (λ _ n. n < 64) (s .places) k i (c .pre .1) (s .within), tt)
-          )
-        )
-      )
+            (kept-set 0 (λ _ n. n < 64) (s .places) k i (c .pre .1) (s .within), tt),
+          ),
+        ),
+      ),
     )
