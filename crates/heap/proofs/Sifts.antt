@@ -1,4 +1,4 @@
--- One step of a sift, and its end. Assumes nothing.
+-- What steps do to the order of a heap. Assumes nothing.
 use mathlib.Core.Path.{_≡_, ap}
 use mathlib.Core.Logic.{inl, inr}
 use Prim.Native.Nat.{ℕ, _<_, _≤_}
@@ -20,3 +20,12 @@ module _ (f : ℕ → ℕ) (n h : ℕ) where
 
   pub sink-step : (f′ : ℕ → ℕ) (c : ℕ) → ButChildren f n h → Sooner f n h (Some c) → ((k : ℕ) → f′ k ≡ exchanged f h c k) → ButChildren f′ n c
   sink-step f′ c but child e = search needs
+
+module _ (f f′ : ℕ → ℕ) (n : ℕ) where
+  -- the same keys
+  pub same-order : Ordered f n → ((i : ℕ) → i < n → f′ i ≡ f i) → Ordered f′ n
+  same-order o e = search needs
+
+  -- fewer places, of which none has another key
+  pub fewer-order : (m h : ℕ) → Ordered f m → n ≤ m → n ≤ h → ((i : ℕ) → i < n → f′ i ≡ exchanged f h n i) → Ordered f′ n
+  fewer-order m h o l past e = search needs

@@ -6,6 +6,7 @@ ghost use lib.ListN.{set};
 ghost use Rattle.std.specs.declared.option.Option.the-variants.{Some, None};
 ghost use Rattle.heap.specs.Index.{pairAt, tagOr, exchanged};
 ghost use Rattle.heap.specs.Keys.{classes, count, keys, Reordered};
+ghost use Rattle.heap.specs.Slots.{spot};
 use crate::heaps::Heaps;
 use crate::slots::Slots;
 use base::units::Parts;
@@ -49,6 +50,23 @@ impl Heaps {
         ensures { λ r. ⌜ r ≡ count (now (self .entry)) group ⌝ }
     {
         self.lens[group as usize]
+    }
+
+    /// The place of a class in the heap of its group.
+    pub fn place_of(&self, class: u8) -> u8
+        requires { ⌜ class < 64 ⌝ }
+        ensures { λ r. ⌜ r ≡ spot (now (self .entry) .slots .places) class ⌝ }
+    {
+        self.slots.place_of(class)
+    }
+
+    /// The class at a place of a group's heap.
+    pub fn class_at(&self, group: u8, place: u8) -> u8
+        requires { ⌜ (group < 64) × (place < 64) ⌝ }
+        ensures value { λ r. ⌜ r ≡ classes (now (self .entry)) group place ⌝ }
+        ensures known { λ r. ⌜ r < 64 ⌝ }
+    {
+        self.slots.class_at(group, place)
     }
 
     /// The class at place i of a group's heap comes before the one at place j.
@@ -99,5 +117,18 @@ impl Heaps {
         let class = self.slots.class_at(group, last);
         self.pairs[class as usize] = None;
         self.lens[group as usize] = last;
+    }
+
+    /// Removes the class at a place of a group's heap, with its pair. The last class of the heap goes to its place.
+    pub fn remove_at(&mut self, group: u8, place: u8)
+        requires { ⌜ (group < 64) × (place < count (now self) group) ⌝ }
+        ensures pairs { λ _. ⌜ now (self .exit) .pairs ≡ set (now (self .entry) .pairs) (classes (now (self .entry)) group place) None ⌝ }
+        ensures lens { λ _. ⌜ now (self .exit) .lens ≡ set (now (self .entry) .lens) group (count (now (self .entry)) group - 1) ⌝ }
+        ensures keys { λ _. ⌜ ((i : ℕ) → i < count (now (self .exit)) group → keys (now (self .exit)) group i ≡ exchanged (keys (now (self .entry)) group) place (count (now (self .exit)) group) i) ⌝ }
+        ensures others { λ _. ⌜ ((g i : ℕ) → (g ≡ group → ⊥) → i < count (now (self .entry)) g → keys (now (self .exit)) g i ≡ keys (now (self .entry)) g i) ⌝ }
+    {
+        let last = self.len(group) - 1;
+        self.exchange(group, place, last);
+        self.drop_last(group);
     }
 }
