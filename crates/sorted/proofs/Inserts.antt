@@ -1,11 +1,12 @@
 -- Rows with one more entry, and what outlasts that, both ways. Assumes nothing.
 use mathlib.Core.Path.{_≡_, refl, sym, ap, subst, _∙_}
+use mathlib.Core.Bool.{Bool, true}
 use mathlib.Core.Logic.{inl, inr}
 use Prim.Native.Nat.{ℕ, _+_, _-_, _<_, _≤_}
 use native.Mathlib.Omega.{arith}
 use Rattle.std.proofs.shelf.Tests.{cases-lt, cases-eq, lt-ltb, le-ltb, eq-eqb, ne-eqb}
 use Rattle.sorted.specs.declared.entry.Entry.{Entry}
-use Rattle.sorted.specs.Rows.{inserted, removed}
+use Rattle.sorted.specs.Rows.{inserted, removed, Pairwise}
 
 -- the first n + 1 rows of r′ are the first n of r with e at place p
 pub record Inserts (r r′ : ℕ → Entry) (n p : ℕ) (e : Entry) : Type 0 where
@@ -19,7 +20,7 @@ from-inserted r r′ n p e l is = record {
   place = l;
   low = λ i low. rw (lt-ltb i p low) at (is i (omega arith));
   here = rw (le-ltb p p (omega arith), eq-eqb p p refl) at (is p l);
-  high = λ i high more. rw (le-ltb (i + 1) p (omega arith), ne-eqb (i + 1) p (omega arith)) at (is (i + 1) (omega arith)) ∙ ap r (omega arith)
+  high = λ i high more. rw (le-ltb (i + 1) p (omega arith), ne-eqb (i + 1) p (omega arith)) at (is (i + 1) (omega arith)) ∙ ap r (omega arith);
 }
 
 -- and the other way: r′ is r without its place p
@@ -28,7 +29,7 @@ from-removed r r′ n p l is = record {
   place = l;
   low = λ i low. sym (rw (lt-ltb i p low) at (is i (omega arith)));
   here = refl;
-  high = λ i high more. sym (rw (le-ltb i p high) at (is i more))
+  high = λ i high more. sym (rw (le-ltb i p high) at (is i more));
 }
 
 module _ {r r′ : ℕ → Entry} {n p : ℕ} {e : Entry} (x : Inserts r r′ n p e) where
@@ -54,30 +55,30 @@ module _ {r r′ : ℕ → Entry} {n p : ℕ} {e : Entry} (x : Inserts r r′ n 
           | inr high ↦ subst P (x .high i high l) (all (i + 1) (omega arith))
         ]
 
-  module _ (R : Entry → Entry → Type 0) where
-    pub pairs-more : ((i j : ℕ) → i < j → j < n → R (r i) (r j)) → ((i : ℕ) → i < p → R (r i) e) → ((i : ℕ) → p ≤ i → i < n → R e (r i)) → (i j : ℕ) → i < j → j < n + 1 → R (r′ i) (r′ j)
-    pairs-more all left right i j l h =
+  module _ (R : Entry → Entry → Bool) where
+    pub pairs-more : Pairwise R r n → ((i : ℕ) → i < p → R (r i) e ≡ true) → ((i : ℕ) → p ≤ i → i < n → R e (r i) ≡ true) → Pairwise R r′ (n + 1)
+    pairs-more all left right (i, j) l h =
         let m = x .place in
         elim (cases-lt j p) [
-          | inl low ↦ subst (R (r′ i)) (sym (x .low j low)) (subst (λ a. R a (r j)) (sym (x .low i (omega arith))) (all i j l (omega arith)))
+          | inl low ↦ ap (R (r′ i)) (x .low j low) ∙ (ap (λ a. R a (r j)) (x .low i (omega arith)) ∙ all (i, j) l (omega arith))
           | inr high ↦ elim (cases-eq j p) [
-            | inl same ↦ subst (R (r′ i)) (sym (ap r′ same ∙ x .here)) (subst (λ a. R a e) (sym (x .low i (omega arith))) (left i (omega arith)))
-            | inr other ↦ subst (R (r′ i)) (sym (later j (omega (arith, other)) h)) (elim (cases-lt i p) [
-              | inl low ↦ subst (λ a. R a (r (j - 1))) (sym (x .low i low)) (all i (j - 1) (omega (arith, other)) (omega (arith, other)))
+            | inl same ↦ ap (R (r′ i)) (ap r′ same ∙ x .here) ∙ (ap (λ a. R a e) (x .low i (omega arith)) ∙ left i (omega arith))
+            | inr other ↦ ap (R (r′ i)) (later j (omega (arith, other)) h) ∙ elim (cases-lt i p) as (λ _. R (r′ i) (r (j - 1)) ≡ true) [
+              | inl low ↦ ap (λ a. R a (r (j - 1))) (x .low i low) ∙ all (i, j - 1) (omega (arith, other)) (omega (arith, other))
               | inr up ↦ elim (cases-eq i p) [
-                | inl here ↦ subst (λ a. R a (r (j - 1))) (sym (ap r′ here ∙ x .here)) (right (j - 1) (omega (arith, other)) (omega (arith, other)))
-                | inr past ↦ subst (λ a. R a (r (j - 1))) (sym (later i (omega (arith, past)) (omega arith))) (all (i - 1) (j - 1) (omega (arith, past)) (omega (arith, other)))
+                | inl here ↦ ap (λ a. R a (r (j - 1))) (ap r′ here ∙ x .here) ∙ right (j - 1) (omega (arith, other)) (omega (arith, other))
+                | inr past ↦ ap (λ a. R a (r (j - 1))) (later i (omega (arith, past)) (omega arith)) ∙ all (i - 1, j - 1) (omega (arith, past)) (omega (arith, other))
               ]
-            ])
+            ]
           ]
         ]
 
-    pub pairs-less : ((i j : ℕ) → i < j → j < n + 1 → R (r′ i) (r′ j)) → (i j : ℕ) → i < j → j < n → R (r i) (r j)
-    pairs-less all i j l h =
+    pub pairs-less : Pairwise R r′ (n + 1) → Pairwise R r n
+    pairs-less all (i, j) l h =
         elim (cases-lt j p) [
-          | inl low ↦ subst (R (r i)) (x .low j low) (subst (λ a. R a (r′ j)) (x .low i (omega arith)) (all i j l (omega arith)))
-          | inr high ↦ subst (R (r i)) (x .high j high h) (elim (cases-lt i p) [
-            | inl low ↦ subst (λ a. R a (r′ (j + 1))) (x .low i low) (all i (j + 1) (omega arith) (omega arith))
-            | inr up ↦ subst (λ a. R a (r′ (j + 1))) (x .high i up (omega arith)) (all (i + 1) (j + 1) (omega arith) (omega arith))
-          ])
+          | inl low ↦ ap (R (r i)) (sym (x .low j low)) ∙ (ap (λ a. R a (r′ j)) (sym (x .low i (omega arith))) ∙ all (i, j) l (omega arith))
+          | inr high ↦ ap (R (r i)) (sym (x .high j high h)) ∙ elim (cases-lt i p) as (λ _. R (r i) (r′ (j + 1)) ≡ true) [
+            | inl low ↦ ap (λ a. R a (r′ (j + 1))) (sym (x .low i low)) ∙ all (i, j + 1) (omega arith) (omega arith)
+            | inr up ↦ ap (λ a. R a (r′ (j + 1))) (sym (x .high i up (omega arith))) ∙ all (i + 1, j + 1) (omega arith) (omega arith)
+          ]
         ]

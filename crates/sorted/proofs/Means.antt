@@ -1,23 +1,27 @@
 -- What rows mean, by the places of their classes. Assumes nothing.
 use mathlib.Core.Path.{_≡_, refl, sym, ap, subst, _∙_}
-use mathlib.Core.Bool.{false, cond}
+use mathlib.Core.Bool.{Bool, true, not}
 use mathlib.Core.Logic.{_⊎_, inl, inr}
 use Prim.Native.Nat.{ℕ, zero, suc, _+_, _<_, _≤_}
 use native.Mathlib.Omega.{arith}
 use lib.Dec.{eqb}
-use Rattle.std.proofs.shelf.Tests.{cases-lt, cases-eq, eq-eqb, ne-eqb, eqb-false}
+use Rattle.std.proofs.shelf.Tests.{cases-lt, cases-eq, eq-eqb, ne-eqb, eqb-false, not-true, not-false, true≢false}
+use Rattle.std.specs.Options.{isSome}
 use Rattle.std.specs.declared.option.Option.{Option}
 use Rattle.std.specs.declared.option.Option.the-variants.{Some, None}
 use Rattle.base.specs.declared.units.Parts.{Parts}
-use Rattle.tags.specs.Held.{with}
+use Rattle.tags.specs.Held.{with, free}
 use Rattle.tags.proofs.Uses.{none-some}
 use Rattle.sorted.specs.declared.entry.Entry.{Entry}
-use Rattle.sorted.specs.Rows.{heldIn, Found}
-use Rattle.sorted.proofs.Inserts.{Inserts, each-more, each-less}
+use Rattle.sorted.specs.Rows.{differ, Pairwise, heldIn, Found}
+use Rattle.sorted.proofs.Inserts.{Inserts, each-more}
 
 -- no class has two of the first n rows
 abbrev pub Once : (ℕ → Entry) → ℕ → Type 0
-Once r n = (i j : ℕ) → i < j → j < n → eqb (r i .class) (r j .class) ≡ false
+Once r n = Pairwise differ r n
+
+pub two-classes : (a b : Entry) → differ a b ≡ true → a .class ≡ b .class → ⊥
+two-classes a b d = eqb-false (a .class) (b .class) (not-true (eqb (a .class) (b .class)) d)
 
 -- the pair of an entry
 abbrev pub pair : Entry → Option (ℕ × Parts)
@@ -32,7 +36,7 @@ module _ (r : ℕ → Entry) where
   held-at zero k i once l e = absurd (omega arith)
   held-at (suc n) k i once l e =
       elim (cases-lt i n) [
-        | inl low ↦ rw (ne-eqb (r n .class) k (λ s. eqb-false (r i .class) (r n .class) (once i n low (omega arith)) (e ∙ sym s))) (held-at n k i (λ a b c d. once a b c (omega arith)) low e)
+        | inl low ↦ rw (ne-eqb (r n .class) k (λ s. two-classes (r i) (r n) (once (i, n) low (omega arith)) (e ∙ sym s))) (held-at n k i (λ q a b. once q a (omega arith)) low e)
         | inr last ↦ let s : i ≡ n = omega arith in rw (eq-eqb (r n .class) k (ap (λ j. r j .class) (sym s) ∙ e)) (ap (λ j. pair (r j)) (sym s))
       ]
 
@@ -56,13 +60,21 @@ module _ (r : ℕ → Entry) where
         | inr none ↦ absurd (none-some (heldIn r n k) g t (held-none n k none) e)
       ]
 
+  -- a class is free if it has no place
+  pub found-free : (n k : ℕ) (o : Option ℕ) (b : Bool) → Once r n → Found r n k o → isSome o ≡ not b → b ≡ free (heldIn r n k)
+  found-free n k None b once none e = not-false b (sym e) ∙ sym (ap free (held-none n k none))
+  found-free n k (Some i) b once at e = not-true b (sym e) ∙ sym (ap free (held-at n k i once (at .0) (at .1)))
+
+  pub free-none : (n k : ℕ) → Once r n → free (heldIn r n k) ≡ true → Found r n k None
+  free-none n k once e i l is = true≢false (sym e ∙ ap free (held-at n k i once l is))
+
 module _ {r r′ : ℕ → Entry} {n p : ℕ} {e : Entry} (x : Inserts r r′ n p e) (once′ : Once r′ (n + 1)) (once : Once r n) where
   -- the class of e has no row in r
   pub new-class : Found r n (e .class) None
   new-class i l same =
       elim (cases-lt i p) [
-        | inl low ↦ let m = x .place in eqb-false _ _ (once′ i p low (omega arith)) (ap (λ a. a .class) (x .low i low) ∙ (same ∙ sym (ap (λ a. a .class) (x .here))))
-        | inr high ↦ eqb-false _ _ (once′ p (i + 1) (omega arith) (omega arith)) (ap (λ a. a .class) (x .here) ∙ (sym same ∙ sym (ap (λ a. a .class) (x .high i high l))))
+        | inl low ↦ let m = x .place in two-classes (r′ i) (r′ p) (once′ (i, p) low (omega arith)) (ap (λ a. a .class) (x .low i low) ∙ (same ∙ sym (ap (λ a. a .class) (x .here))))
+        | inr high ↦ two-classes (r′ p) (r′ (i + 1)) (once′ (p, i + 1) (omega arith) (omega arith)) (ap (λ a. a .class) (x .here) ∙ (sym same ∙ sym (ap (λ a. a .class) (x .high i high l))))
       ]
 
   -- r′ means what r means, and e

@@ -38,7 +38,7 @@ module _ (xs ys : List Entry) (a e : ℕ) (up : a ≤ e) (within : e ≤ length 
         | inr high ↦ rw (le-ltb i a high) (elim (cases-eq i a) [
           | inl here ↦ rw (eq-eqb i a here) (let f = length-part in ap (row (set (putMid a (e - a) xs ys) a x)) here ∙ getD-set-same (putMid a (e - a) xs ys) a x blank (omega arith))
           | inr after ↦ rw (ne-eqb i a after) (
-            getD-set-other (putMid a (e - a) xs ys) a i x blank after ∙ in-part i high l ∙ moved (i - a) blank (omega (arith, after)) (omega (arith, after)) ∙ was-part (i - a - 1) (omega (arith, after)) ∙ ap (row xs) (omega (arith, after)))
+              getD-set-other (putMid a (e - a) xs ys) a i x blank after ∙ in-part i high l ∙ moved (i - a) blank (omega (arith, after)) (omega (arith, after)) ∙ was-part (i - a - 1) (omega (arith, after)) ∙ ap (row xs) (omega (arith, after)))
         ])
       ]
 

@@ -1,6 +1,6 @@
 -- The list as a function of the place.
 use mathlib.Core.Path.{_≡_}
-use mathlib.Core.Bool.{Bool, true, false, cond, _&&_, _||_}
+use mathlib.Core.Bool.{Bool, true, false, not, cond, _&&_, _||_}
 use mathlib.Core.List.{List}
 use Prim.Native.Nat.{ℕ, zero, suc, _+_, _-_, _<_, _≤_}
 use lib.Dec.{eqb, ltb}
@@ -29,6 +29,14 @@ removed r p i = cond (ltb i p) (r i) (r (i + 1))
 -- a comes before b: by group, then by tag, then by class
 abbrev pub precedes : Entry → Entry → Bool
 precedes a b = ltb (a .group) (b .group) || (eqb (a .group) (b .group) && (ltb (a .tag .0) (b .tag .0) || (eqb (a .tag .0) (b .tag .0) && ltb (a .class) (b .class))))
+
+-- the classes of a and b differ
+abbrev pub differ : Entry → Entry → Bool
+differ a b = not (eqb (a .class) (b .class))
+
+-- R holds of each of the first n rows and each later one of them
+abbrev pub Pairwise : (Entry → Entry → Bool) → (ℕ → Entry) → ℕ → Type 0
+Pairwise R r n = (q : ℕ × ℕ) → q .0 < q .1 → q .1 < n → R (r (q .0)) (r (q .1)) ≡ true
 
 -- what the first n rows mean: group and tag of class k
 abbrev pub heldIn : (ℕ → Entry) → ℕ → Held

@@ -1,4 +1,6 @@
 //! One class that stands.
+ghost use mathlib.Core.Path.{_≡_};
+ghost use Rattle.sorted.specs.Rows.{precedes};
 use base::units::Parts;
 use base::units::PartsEq;
 use base::units::PartsOrd;
@@ -11,4 +13,13 @@ pub struct Entry {
     pub group: u8,
     pub tag: Parts,
     pub class: u8,
+}
+
+impl Entry {
+    /// This entry comes before the other.
+    pub fn before(self, other: Entry) -> bool
+        ensures { λ r. ⌜ r ≡ precedes self other ⌝ }
+    {
+        self < other
+    }
 }

@@ -2,9 +2,9 @@
 ghost use mathlib.Core.Path.{_≡_};
 ghost use Prim.Native.Nat.{ℕ, _+_, _-_, _<_, _≤_};
 ghost use lib.ListN.{length};
-ghost use Rattle.sorted.specs.Rows.{row, inserted, removed};
-use base::units::Parts;
+ghost use Rattle.sorted.specs.Rows.{row, inserted, removed, Found};
 use crate::entry::Entry;
+use base::units::Parts;
 
 /// The entries at the places below `len`, in order of their places.
 #[derive(Drop)]
@@ -20,7 +20,11 @@ impl EntryList {
         ensures { λ r. ⌜ r .len ≡ 0 ⌝ }
     {
         EntryList {
-            entries: [Entry { group: 0, tag: Parts::ZERO, class: 0 }; 64],
+            entries: [Entry {
+                group: 0,
+                tag: Parts::ZERO,
+                class: 0,
+            }; 64],
             len: 0,
         }
     }
@@ -36,6 +40,18 @@ impl EntryList {
         ensures { λ r. ⌜ r ≡ row (now (self .entry) .entries) at ⌝ }
     {
         self.entries[at]
+    }
+
+    /// The place of a class.
+    pub fn position(&self, class: u8) -> Option<usize>
+        ensures { λ r. ⌜ Found (row (now (self .entry) .entries)) (now (self .entry) .len) class r ⌝ }
+    {
+        for i in 0..self.len {
+            if self.entries[i].class == class {
+                return Some(i);
+            }
+        }
+        None
     }
 
     /// Puts an entry in at a place. Those from there on go one place up.

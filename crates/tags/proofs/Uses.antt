@@ -1,11 +1,11 @@
 -- What users of a store learn from its contracts, and what implementations owe. Assumes nothing.
-use mathlib.Core.Path.{_≡_, refl, sym, ap, subst, _∙_}
+use mathlib.Core.Path.{_≡_, refl, sym, ap, subst, fun-ext, _∙_}
 use mathlib.Core.Bool.{Bool, true, false, cond, _&&_}
 use Prim.Native.Nat.{ℕ, zero, suc, _<_, _≤_}
 use native.Mathlib.Omega.{arith}
-use mathlib.Core.Logic.{⊎-elim}
+use mathlib.Core.Logic.{⊎-elim, inl, inr}
 use lib.Dec.{eqb, ltb}
-use Rattle.std.proofs.shelf.Tests.{lt-ltb, eq-eqb, ne-eqb, cases-lt, cases-bool, ltb-true, ltb-false, eqb-true, eqb-false}
+use Rattle.std.proofs.shelf.Tests.{lt-ltb, eq-eqb, ne-eqb, cases-lt, cases-eq, cases-bool, ltb-true, ltb-false, eqb-true, eqb-false}
 use Rattle.std.specs.declared.option.Option.{Option}
 use Rattle.std.specs.declared.option.Option.the-variants.{Some, None}
 use Rattle.base.specs.declared.units.Parts.{Parts}
@@ -16,6 +16,13 @@ with-same h c o = rw (eq-eqb c c refl)
 
 pub with-other : (h : Held) (c : ℕ) (o : Option (ℕ × Parts)) (k : ℕ) → (k ≡ c → ⊥) → with h c o k ≡ h k
 with-other h c o k n = rw (ne-eqb k c n)
+
+-- a class that has no pair is not removed
+pub with-none : (h : Held) (c : ℕ) → h c ≡ None → h ≡ with h c None
+with-none h c none = fun-ext (λ k. elim (cases-eq k c) [
+  | inl same ↦ rw (eq-eqb k c same) (ap h same ∙ none)
+  | inr other ↦ rw (ne-eqb k c other) refl
+])
 
 -- a put that fits is done
 pub put-done : (h h′ : Held) (g c : ℕ) (t : Parts) (r : Bool) → r ≡ mayPut h g c → h′ ≡ cond r (with h c (Some (g, t))) h → g < 64 → c < 64 → h c ≡ None → h′ ≡ with h c (Some (g, t))

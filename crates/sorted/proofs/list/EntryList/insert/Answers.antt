@@ -22,5 +22,5 @@ returns c =
     let room = c .pre .1 in
     record {
       rows = λ i l. inserted-row (s .entries) (c .rotate-right .last .self) (c .args .at) (s .len + 1) (omega arith) (omega arith) (c .rotate-right .ensures .len) (c .args .entry) (omega arith) (c .rotate-right .ensures .places .1) i (omega arith);
-      len = refl
+      len = refl;
     }

@@ -21,5 +21,5 @@ returns c =
     let at = c .pre in
     record {
       rows = λ i l. removed-row (s .entries) (c .rotate-left .last .self) (c .args .at) (s .len) (omega arith) (omega arith) (c .rotate-left .ensures .len) (c .rotate-left .ensures .places .0) i (omega arith);
-      len = omega arith
+      len = omega arith;
     }
