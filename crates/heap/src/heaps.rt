@@ -8,8 +8,8 @@ ghost use Rattle.heap.specs.Slots.{cell, spot};
 use crate::slots::Slots;
 use base::units::Parts;
 
-pub mod edits;
-pub mod sift;
+mod edits;
+mod sift;
 
 /// For each class its pair, and for each group a heap of its classes. The heap of a group has, at places 0 and up, the classes that stand in the group.
 #[derive(Drop)]

@@ -1,6 +1,6 @@
 //! A tag store by binary heaps, one for each group.
-pub mod heaps;
-pub mod slots;
-pub mod store;
-
+mod heaps;
+mod slots;
+mod store;
 pub use crate::store::HeapStore;
+pub use crate::store::HeapTagStore;

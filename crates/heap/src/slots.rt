@@ -14,11 +14,10 @@ pub struct Slots {
     ghost rows: { (g : ℕ) → g < 64 → length (getD cells g []) ≡ 64 },
     ghost classes: { length places ≡ 64 },
     ghost known: { (g i : ℕ) → cell cells g i < 64 },
-    ghost within: { (k : ℕ) → spot places k < 64 },
 }
 
 impl Slots {
-    pub fn new() -> Slots {
+    pub(crate) fn new() -> Slots {
         Slots {
             cells: [[0; 64]; 64],
             places: [0; 64],
@@ -26,7 +25,7 @@ impl Slots {
     }
 
     /// The class at a place of a group's heap.
-    pub fn class_at(&self, group: u8, place: u8) -> u8
+    pub(crate) fn class_at(&self, group: u8, place: u8) -> u8
         requires { ⌜ (group < 64) × (place < 64) ⌝ }
         ensures value { λ r. ⌜ r ≡ cell (now (self .entry) .cells) group place ⌝ }
         ensures known { λ r. ⌜ r < 64 ⌝ }
@@ -35,16 +34,15 @@ impl Slots {
     }
 
     /// The place of a class in the heap that it was written to last.
-    pub fn place_of(&self, class: u8) -> u8
+    pub(crate) fn place_of(&self, class: u8) -> u8
         requires { ⌜ class < 64 ⌝ }
-        ensures value { λ r. ⌜ r ≡ spot (now (self .entry) .places) class ⌝ }
-        ensures within { λ r. ⌜ r < 64 ⌝ }
+        ensures { λ r. ⌜ r ≡ spot (now (self .entry) .places) class ⌝ }
     {
         self.places[class as usize]
     }
 
     /// Puts a class at a place of a group's heap.
-    pub fn write(&mut self, group: u8, place: u8, class: u8)
+    pub(crate) fn write(&mut self, group: u8, place: u8, class: u8)
         requires { ⌜ (group < 64) × (place < 64) × (class < 64) ⌝ }
         ensures { λ _. ⌜ Write (cell (now (self .entry) .cells)) (cell (now (self .exit) .cells)) (spot (now (self .entry) .places)) (spot (now (self .exit) .places)) group place class ⌝ }
     {

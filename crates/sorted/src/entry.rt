@@ -17,7 +17,7 @@ pub struct Entry {
 
 impl Entry {
     /// This entry comes before the other.
-    pub fn before(self, other: Entry) -> bool
+    pub(crate) fn before(self, other: Entry) -> bool
         ensures { λ r. ⌜ r ≡ precedes self other ⌝ }
     {
         self < other

@@ -1,6 +1,6 @@
 //! A tag store by one sorted list.
-pub mod entry;
-pub mod list;
-pub mod store;
-
+mod entry;
+mod list;
+mod store;
 pub use crate::store::SortedStore;
+pub use crate::store::SortedTagStore;

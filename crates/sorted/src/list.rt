@@ -16,7 +16,7 @@ pub struct EntryList {
 }
 
 impl EntryList {
-    pub fn new() -> EntryList
+    pub(crate) fn new() -> EntryList
         ensures { λ r. ⌜ r .len ≡ 0 ⌝ }
     {
         EntryList {
@@ -29,13 +29,13 @@ impl EntryList {
         }
     }
 
-    pub fn len(&self) -> usize
+    pub(crate) fn len(&self) -> usize
         ensures { λ r. ⌜ r ≡ now (self .entry) .len ⌝ }
     {
         self.len
     }
 
-    pub fn get(&self, at: usize) -> Entry
+    pub(crate) fn get(&self, at: usize) -> Entry
         requires { ⌜ at < 64 ⌝ }
         ensures { λ r. ⌜ r ≡ row (now (self .entry) .entries) at ⌝ }
     {
@@ -43,7 +43,7 @@ impl EntryList {
     }
 
     /// The place of a class.
-    pub fn position(&self, class: u8) -> Option<usize>
+    pub(crate) fn position(&self, class: u8) -> Option<usize>
         ensures { λ r. ⌜ Found (row (now (self .entry) .entries)) (now (self .entry) .len) class r ⌝ }
     {
         for i in 0..self.len {
@@ -55,7 +55,7 @@ impl EntryList {
     }
 
     /// Puts an entry in at a place. Those from there on go one place up.
-    pub fn insert(&mut self, at: usize, entry: Entry)
+    pub(crate) fn insert(&mut self, at: usize, entry: Entry)
         requires { ⌜ (at ≤ now self .len) × (now self .len < 64) ⌝ }
         ensures rows { λ _. ⌜ ((i : ℕ) → i ≤ now (self .entry) .len → row (now (self .exit) .entries) i ≡ inserted (row (now (self .entry) .entries)) at entry i) ⌝ }
         ensures len { λ _. ⌜ now (self .exit) .len ≡ now (self .entry) .len + 1 ⌝ }
@@ -66,7 +66,7 @@ impl EntryList {
     }
 
     /// Removes the entry at a place. Those after it go one place down.
-    pub fn remove(&mut self, at: usize)
+    pub(crate) fn remove(&mut self, at: usize)
         requires { ⌜ at < now self .len ⌝ }
         ensures rows { λ _. ⌜ ((i : ℕ) → i < now (self .exit) .len → row (now (self .exit) .entries) i ≡ removed (row (now (self .entry) .entries)) at i) ⌝ }
         ensures len { λ _. ⌜ now (self .exit) .len + 1 ≡ now (self .entry) .len ⌝ }

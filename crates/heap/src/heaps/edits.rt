@@ -14,7 +14,7 @@ use base::units::PartsPartialOrd;
 
 impl Heaps {
     /// No class stands.
-    pub fn new() -> Heaps
+    pub(crate) fn new() -> Heaps
         ensures pairs { λ r. ⌜ ((k : ℕ) → pairAt (r .pairs) k ≡ None) ⌝ }
         ensures lens { λ r. ⌜ ((g : ℕ) → count r g ≡ 0) ⌝ }
     {
@@ -26,7 +26,7 @@ impl Heaps {
     }
 
     /// The pair of a class.
-    pub fn pair(&self, class: u8) -> Option<(u8, Parts)>
+    pub(crate) fn pair(&self, class: u8) -> Option<(u8, Parts)>
         requires { ⌜ class < 64 ⌝ }
         ensures { λ r. ⌜ r ≡ pairAt (now (self .entry) .pairs) class ⌝ }
     {
@@ -34,7 +34,7 @@ impl Heaps {
     }
 
     /// The tag of a class, 0 where it does not stand.
-    pub fn tag(&self, class: u8) -> Parts
+    pub(crate) fn tag(&self, class: u8) -> Parts
         requires { ⌜ class < 64 ⌝ }
         ensures { λ r. ⌜ r ≡ tagOr (pairAt (now (self .entry) .pairs) class) ⌝ }
     {
@@ -45,7 +45,7 @@ impl Heaps {
     }
 
     /// How many classes stand in a group.
-    pub fn len(&self, group: u8) -> u8
+    pub(crate) fn len(&self, group: u8) -> u8
         requires { ⌜ group < 64 ⌝ }
         ensures { λ r. ⌜ r ≡ count (now (self .entry)) group ⌝ }
     {
@@ -53,7 +53,7 @@ impl Heaps {
     }
 
     /// The place of a class in the heap of its group.
-    pub fn place_of(&self, class: u8) -> u8
+    pub(crate) fn place_of(&self, class: u8) -> u8
         requires { ⌜ class < 64 ⌝ }
         ensures { λ r. ⌜ r ≡ spot (now (self .entry) .slots .places) class ⌝ }
     {
@@ -61,7 +61,7 @@ impl Heaps {
     }
 
     /// The class at a place of a group's heap.
-    pub fn class_at(&self, group: u8, place: u8) -> u8
+    pub(crate) fn class_at(&self, group: u8, place: u8) -> u8
         requires { ⌜ (group < 64) × (place < 64) ⌝ }
         ensures value { λ r. ⌜ r ≡ classes (now (self .entry)) group place ⌝ }
         ensures known { λ r. ⌜ r < 64 ⌝ }
@@ -70,7 +70,7 @@ impl Heaps {
     }
 
     /// The class at place i of a group's heap comes before the one at place j.
-    pub fn before(&self, group: u8, i: u8, j: u8) -> bool
+    pub(crate) fn before(&self, group: u8, i: u8, j: u8) -> bool
         requires { ⌜ (group < 64) × (i < 64) × (j < 64) ⌝ }
         ensures { λ r. ⌜ r ≡ ltb (keys (now (self .entry)) group i) (keys (now (self .entry)) group j) ⌝ }
     {
@@ -80,7 +80,7 @@ impl Heaps {
     }
 
     /// Exchanges the classes at two places of a group's heap.
-    pub fn exchange(&mut self, group: u8, i: u8, j: u8)
+    pub(crate) fn exchange(&mut self, group: u8, i: u8, j: u8)
         requires { ⌜ (group < 64) × (i < count (now self) group) × (j < count (now self) group) ⌝ }
         ensures classes { λ _. ⌜ ((k : ℕ) → classes (now (self .exit)) group k ≡ exchanged (classes (now (self .entry)) group) i j k) ⌝ }
         ensures keys { λ _. ⌜ ((k : ℕ) → keys (now (self .exit)) group k ≡ exchanged (keys (now (self .entry)) group) i j k) ⌝ }
@@ -93,7 +93,7 @@ impl Heaps {
     }
 
     /// Puts a class that does not stand at the end of a group's heap.
-    pub fn append(&mut self, group: u8, class: u8, tag: Parts)
+    pub(crate) fn append(&mut self, group: u8, class: u8, tag: Parts)
         requires known { ⌜ (group < 64) × (class < 64) ⌝ }
         requires free { ⌜ pairAt (now self .pairs) class ≡ None ⌝ }
         ensures pairs { λ _. ⌜ now (self .exit) .pairs ≡ set (now (self .entry) .pairs) class (Some (group, tag)) ⌝ }
@@ -107,7 +107,7 @@ impl Heaps {
     }
 
     /// Removes the last class of a group's heap, with its pair.
-    pub fn drop_last(&mut self, group: u8)
+    pub(crate) fn drop_last(&mut self, group: u8)
         requires { ⌜ (group < 64) × (0 < count (now self) group) ⌝ }
         ensures pairs { λ _. ⌜ now (self .exit) .pairs ≡ set (now (self .entry) .pairs) (classes (now (self .entry)) group (count (now (self .entry)) group - 1)) None ⌝ }
         ensures lens { λ _. ⌜ now (self .exit) .lens ≡ set (now (self .entry) .lens) group (count (now (self .entry)) group - 1) ⌝ }
@@ -120,7 +120,7 @@ impl Heaps {
     }
 
     /// Removes the class at a place of a group's heap, with its pair. The last class of the heap goes to its place.
-    pub fn remove_at(&mut self, group: u8, place: u8)
+    pub(crate) fn remove_at(&mut self, group: u8, place: u8)
         requires { ⌜ (group < 64) × (place < count (now self) group) ⌝ }
         ensures pairs { λ _. ⌜ now (self .exit) .pairs ≡ set (now (self .entry) .pairs) (classes (now (self .entry)) group place) None ⌝ }
         ensures lens { λ _. ⌜ now (self .exit) .lens ≡ set (now (self .entry) .lens) group (count (now (self .entry)) group - 1) ⌝ }

@@ -21,7 +21,7 @@ impl Heaps {
     }
 
     /// Moves the class at a place up until it does not come before its parent.
-    pub fn rise(&mut self, group: u8, from: u8)
+    pub(crate) fn rise(&mut self, group: u8, from: u8)
         requires known { ⌜ (group < 64) × (from < count (now self) group) ⌝ }
         requires order { ⌜ ButParent (keys (now self) group) (count (now self) group) from ⌝ }
         ensures ordered { λ _. ⌜ Ordered (keys (now (self .exit)) group) (count (now (self .exit)) group) ⌝ }
@@ -56,7 +56,7 @@ impl Heaps {
     }
 
     /// Moves the class at a place down until none of its children comes before it.
-    pub fn sink(&mut self, group: u8, from: u8)
+    pub(crate) fn sink(&mut self, group: u8, from: u8)
         requires known { ⌜ (group < 64) × (from < count (now self) group) ⌝ }
         requires order { ⌜ ButChildren (keys (now self) group) (count (now self) group) from ⌝ }
         ensures ordered { λ _. ⌜ Ordered (keys (now (self .exit)) group) (count (now (self .exit)) group) ⌝ }
@@ -70,7 +70,7 @@ impl Heaps {
     }
 
     /// Moves the class at a place to where it belongs.
-    pub fn settle(&mut self, group: u8, place: u8)
+    pub(crate) fn settle(&mut self, group: u8, place: u8)
         requires known { ⌜ (group < 64) × (place < count (now self) group) ⌝ }
         requires order { ⌜ ButPlace (keys (now self) group) (count (now self) group) place ⌝ }
         ensures ordered { λ _. ⌜ Ordered (keys (now (self .exit)) group) (count (now (self .exit)) group) ⌝ }
