@@ -2,5 +2,6 @@
 mod heaps;
 mod slots;
 mod store;
+
 pub use crate::store::HeapStore;
 pub use crate::store::HeapTagStore;

@@ -2,5 +2,6 @@
 mod entry;
 mod list;
 mod store;
+
 pub use crate::store::SortedStore;
 pub use crate::store::SortedTagStore;
