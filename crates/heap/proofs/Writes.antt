@@ -2,7 +2,7 @@
 use mathlib.Core.Path.{_≡_, refl}
 use mathlib.Core.List.{List}
 use mathlib.Core.Logic.{inl, inr}
-use Prim.Native.Nat.{ℕ, zero, suc, _<_}
+use Prim.Native.Nat.{ℕ, zero, suc}
 use lib.ListN.{length, getD, set, replicate}
 use Rattle.std.proofs.shelf.Lists.{getD-set-same, getD-set-other, set-past}
 use Rattle.std.proofs.shelf.Tests.{cases-eq, cases-lt}

@@ -1,6 +1,6 @@
 //! Which class is at which place of which heap, and back.
 ghost use mathlib.Core.Path.{_≡_};
-ghost use mathlib.Core.List.{List, []};
+ghost use mathlib.Core.List.{[]};
 ghost use Prim.Native.Nat.{ℕ, _<_};
 ghost use lib.ListN.{length, getD};
 ghost use Rattle.heap.specs.Slots.{cell, spot, Write};

@@ -1,5 +1,5 @@
 -- What a rotation of a part of the list by one place leaves. Assumes nothing.
-use mathlib.Core.Path.{_≡_, refl, ap, _∙_}
+use mathlib.Core.Path.{_≡_, ap, _∙_}
 use mathlib.Core.List.{List}
 use mathlib.Core.Logic.{inl, inr}
 use Prim.Native.Nat.{ℕ, _+_, _-_, _<_, _≤_}
@@ -7,7 +7,7 @@ use native.Mathlib.Omega.{arith}
 use borrow.Author.Needs.{needs}
 use borrow.Rule.Slice.PartMut.{midOf, putMid, mid-len}
 use lib.ListN.{length, getD, set, drop}
-use Rattle.std.proofs.shelf.Lists.{places, length-set, getD-take, getD-drop, getD-set-same, getD-set-other}
+use Rattle.std.proofs.shelf.Lists.{places, getD-take, getD-drop, getD-set-same, getD-set-other}
 use Rattle.std.proofs.shelf.Tests.{cases-lt, cases-eq, lt-ltb, le-ltb, eq-eqb, ne-eqb}
 use Rattle.sorted.specs.declared.entry.Entry.{Entry}
 use Rattle.sorted.specs.Rows.{blank, row, inserted, removed}

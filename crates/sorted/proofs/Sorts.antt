@@ -1,15 +1,13 @@
 -- The order of the store outlasts one entry more and one less, and says which is least. Assumes nothing.
-use mathlib.Core.Path.{_≡_, refl, sym, ap, subst, _∙_}
-use mathlib.Core.Bool.{true, false, not}
+use mathlib.Core.Path.{_≡_, refl, sym, ap, _∙_}
+use mathlib.Core.Bool.{true, not}
 use mathlib.Core.Logic.{inl, inr}
 use Prim.Native.Nat.{ℕ, _+_, _<_, _≤_}
 use native.Mathlib.Omega.{arith}
-use lib.Dec.{eqb}
 use Rattle.std.proofs.shelf.Tests.{cases-lt, cases-eq, ne-eqb}
 use Rattle.std.specs.declared.option.Option.the-variants.{Some, None}
 use Rattle.base.specs.declared.units.Parts.{Parts}
 use Rattle.tags.specs.Held.{Least, Looks}
-use Rattle.tags.specs.Order.{rank}
 use Rattle.tags.proofs.Ranks.{least-by-rank}
 use Rattle.tags.proofs.Room.{room}
 use Rattle.tags.proofs.Uses.{some-tag, some-group}

@@ -1,7 +1,7 @@
 -- What users of a store learn from its contracts, and what implementations owe. Assumes nothing.
 use mathlib.Core.Path.{_≡_, refl, sym, ap, subst, fun-ext, _∙_}
-use mathlib.Core.Bool.{Bool, true, false, cond, _&&_}
-use Prim.Native.Nat.{ℕ, zero, suc, _<_, _≤_}
+use mathlib.Core.Bool.{Bool, true, cond}
+use Prim.Native.Nat.{ℕ, zero, suc, _<_}
 use native.Mathlib.Omega.{arith}
 use mathlib.Core.Logic.{⊎-elim, inl, inr}
 use lib.Dec.{eqb, ltb}
@@ -9,7 +9,7 @@ use Rattle.std.proofs.shelf.Tests.{lt-ltb, eq-eqb, ne-eqb, cases-lt, cases-eq, 
 use Rattle.std.specs.declared.option.Option.{Option}
 use Rattle.std.specs.declared.option.Option.the-variants.{Some, None}
 use Rattle.base.specs.declared.units.Parts.{Parts}
-use Rattle.tags.specs.Held.{Held, with, mayPut, free, among, leastOf, lower, better, Looks, Least}
+use Rattle.tags.specs.Held.{Held, with, mayPut, free, among, leastOf, lower, better, Looks}
 
 pub with-same : (h : Held) (c : ℕ) (o : Option (ℕ × Parts)) → with h c o c ≡ o
 with-same h c o = rw (eq-eqb c c refl)

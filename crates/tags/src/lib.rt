@@ -1,7 +1,6 @@
 //! Tag stores: which class stands in which group, with which tag, and what is least there.
 ghost use mathlib.Core.Path.{_≡_};
 ghost use mathlib.Core.Bool.{cond};
-ghost use Prim.Native.Nat.{ℕ};
 ghost use Rattle.std.specs.declared.option.Option.the-variants.{Some, None};
 ghost use Rattle.tags.specs.Held.{Held, Small, nothing, with, tagOf, mayPut, leastOf, Looks};
 use base::units::Parts;

@@ -1,6 +1,5 @@
 //! Putting a heap in order again.
-ghost use mathlib.Core.Path.{_≡_};
-ghost use Prim.Native.Nat.{ℕ, _<_};
+ghost use Prim.Native.Nat.{_<_};
 ghost use Rattle.heap.specs.Keys.{count, keys, Reordered};
 ghost use Rattle.heap.specs.Order.{Ordered, ButParent, ButChildren, ButPlace, Later, Sooner};
 use crate::heaps::Heaps;

@@ -1,6 +1,6 @@
-use mathlib.Core.Path.{_≡_, _∙_, ap, subst, refl}
+use mathlib.Core.Path.{_≡_, _∙_, subst, refl}
 use mathlib.Core.Bool.{true}
-use Prim.Native.Nat.{_+_, _-_, _<_, _≤_}
+use Prim.Native.Nat.{_-_, _≤_}
 use native.Mathlib.Omega.{arith}
 use lib.ListN.{set}
 use Rattle.std.proofs.shelf.Lists.{length-set}

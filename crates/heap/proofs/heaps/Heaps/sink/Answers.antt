@@ -1,4 +1,4 @@
-use mathlib.Core.Path.{_≡_, sym, subst}
+use mathlib.Core.Path.{subst}
 use native.Mathlib.Omega.{arith}
 use Rattle.heap.specs.Keys.{count, keys}
 use Rattle.heap.specs.Order.{ButChildren}

@@ -1,7 +1,6 @@
 use mathlib.Core.Path.{refl, _∙_}
-use Prim.Native.Nat.{_+_, _≤_}
+use Prim.Native.Nat.{_+_}
 use native.Mathlib.Omega.{arith}
-use lib.ListN.{length}
 use Rattle.std.proofs.shelf.Lists.{length-set}
 use Rattle.sorted.proofs.Shifts.{length-part, inserted-row}
 use Rattle.sorted.proofs.list.EntryList.insert.Needs as need

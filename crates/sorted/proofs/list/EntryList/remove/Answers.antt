@@ -1,7 +1,5 @@
 use mathlib.Core.Path.{_∙_}
-use Prim.Native.Nat.{_≤_}
 use native.Mathlib.Omega.{arith}
-use lib.ListN.{length}
 use Rattle.sorted.proofs.Shifts.{length-part, removed-row}
 use Rattle.sorted.proofs.list.EntryList.remove.Needs as need
 

@@ -1,7 +1,6 @@
-use mathlib.Core.Path.{_≡_, sym, ap, subst, fun-ext, _∙_}
-use Prim.Native.Nat.{_+_}
+use mathlib.Core.Path.{sym, ap, subst, fun-ext, _∙_}
 use Rattle.sorted.specs.Rows.{row, heldIn}
-use Rattle.sorted.proofs.Inserts.{Inserts, from-inserted}
+use Rattle.sorted.proofs.Inserts.{from-inserted}
 use Rattle.sorted.proofs.Means.{free-none, held-more}
 use Rattle.sorted.proofs.Sorts.{Sorted, sorted-of, sorted-more, rows-room}
 use Rattle.sorted.proofs.store.SortedStore.insert.Needs as need

@@ -1,10 +1,9 @@
-use mathlib.Core.Path.{_≡_, sym, ap, subst, fun-ext, _∙_}
-use Prim.Native.Nat.{_+_, _≤_}
+use mathlib.Core.Path.{sym, ap, subst, fun-ext, _∙_}
 use native.Mathlib.Omega.{arith}
 use Rattle.tags.specs.Held.{with}
 use Rattle.std.specs.declared.option.Option.the-variants.{None}
 use Rattle.sorted.specs.Rows.{row, heldIn}
-use Rattle.sorted.proofs.Inserts.{Inserts, from-removed}
+use Rattle.sorted.proofs.Inserts.{from-removed}
 use Rattle.sorted.proofs.Means.{held-less}
 use Rattle.sorted.proofs.Sorts.{Sorted, sorted-of, sorted-less}
 use Rattle.sorted.proofs.store.SortedStore.remove.Needs as need

@@ -1,8 +1,6 @@
-use mathlib.Core.Path.{sym, ap}
 use native.Mathlib.Omega.{arith}
-use Rattle.std.specs.declared.option.Option.the-variants.{Some, None}
 use Rattle.sorted.specs.Rows.{row}
-use Rattle.sorted.proofs.Means.{held-row, pair}
+use Rattle.sorted.proofs.Means.{held-row}
 use Rattle.tags.proofs.Uses.{some-group}
 use mathlib.Core.Path.{refl}
 use Rattle.sorted.proofs.store.SortedTagStore.the-impl.Needs as need
