@@ -1,0 +1,4 @@
+pub mod Index
+pub mod Keys
+pub mod Order
+pub mod Slots
