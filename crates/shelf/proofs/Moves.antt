@@ -48,10 +48,10 @@ module _ (t : LinkTable) (from to last head : ℕ)
   abbrev lens′ : List ℕ
   lens′ = set (set lens to (getD lens to 0 + 1)) from (getD lens from 0 - 1)
 
-  pub place-at : at from 0 ≡ place
+  place-at : at from 0 ≡ place
   place-at = walk-first next (len from) place some
 
-  pub place-in : place < t .size
+  place-in : place < t .size
   place-in = subst (λ p. p < t .size) place-at (t .inside from 0 some)
 
   last-empty : len to ≡ 0 → last ≡ place
@@ -77,13 +77,13 @@ module _ (t : LinkTable) (from to last head : ℕ)
   nt e = known .2 (sym e)
 
   -- the tables at each chain
-  pub lens-to : getD lens′ to 0 ≡ len to + 1
+  lens-to : getD lens′ to 0 ≡ len to + 1
   lens-to = getD-set-other (set lens to (len to + 1)) from to _ 0 nt ∙ getD-set-same lens to _ 0 (omega arith)
 
-  pub lens-from : getD lens′ from 0 ≡ len from - 1
+  lens-from : getD lens′ from 0 ≡ len from - 1
   lens-from = getD-set-same (set lens to (len to + 1)) from _ 0 (let e = length-set lens to (len to + 1) in omega arith)
 
-  pub lens-other : (j : ℕ) → (j ≡ to → ⊥) → (j ≡ from → ⊥) → getD lens′ j 0 ≡ len j
+  lens-other : (j : ℕ) → (j ≡ to → ⊥) → (j ≡ from → ⊥) → getD lens′ j 0 ≡ len j
   lens-other j a b = getD-set-other (set lens to (len to + 1)) from j _ 0 b ∙ getD-set-other lens to j _ 0 a
 
   heads-to : getD heads′ to 0 ≡ head
@@ -117,17 +117,17 @@ module _ (t : LinkTable) (from to last head : ℕ)
       let same = t .apart (to, i, to, m) (omega arith, omega arith, ap (λ w. getD (walk next w (getD heads to 0)) i 0) s ∙ e ∙ last-full n) in let q = same .1 in omega arith in
       ap (walk next′ (len to + 1)) h ∙ ap (λ w. walk next′ w (getD heads to 0)) two ∙ extend next m (getD heads to 0) last place l end out ∙ ap (λ w. walk next w (getD heads to 0) ++ place ∷ []) (sym s)
 
-  pub at-to : chain next′ heads′ lens′ to ≡ was to ++ place ∷ []
+  at-to : chain next′ heads′ lens′ to ≡ was to ++ place ∷ []
   at-to = ap (λ n. walk next′ n (getD heads′ to 0)) lens-to ∙ ap (walk next′ (len to + 1)) heads-to ∙ ⊎-elim to-empty to-full (cases-eq (len to) 0)
 
-  pub at-from : chain next′ heads′ lens′ from ≡ drop 1 (was from)
+  at-from : chain next′ heads′ lens′ from ≡ drop 1 (was from)
   at-from =
       let d = walk-drop next (len from) place some in
       ap (λ n. walk next′ n (getD heads′ from 0)) lens-from ∙ ap (walk next′ (len from - 1)) heads-from
       ∙ frame next (len from - 1) (getD next place 0) last place (λ i l e. clear from (1 + i) (known .2) (omega arith) (λ _. omega arith) (sym (ap (λ w. getD w i 0) d ∙ getD-drop 1 (was from) i 0) ∙ e))
       ∙ d
 
-  pub at-other : (j : ℕ) → (j ≡ to → ⊥) → (j ≡ from → ⊥) → chain next′ heads′ lens′ j ≡ was j
+  at-other : (j : ℕ) → (j ≡ to → ⊥) → (j ≡ from → ⊥) → chain next′ heads′ lens′ j ≡ was j
   at-other j a b =
       ap (λ n. walk next′ n (getD heads′ j 0)) (lens-other j a b) ∙ ap (walk next′ (len j)) (heads-other j a b)
       ∙ frame next (len j) (getD heads j 0) last place (λ i l e. clear j i a l (λ f. absurd (b f)) e)
@@ -142,7 +142,7 @@ module _ (t : LinkTable) (from to last head : ℕ)
       (cases-eq j from))
       (cases-eq j to)
 
-  -- each place stood at one place before
+  -- each place of a chain stood at one place of a chain before: at (k, i) before, it stands at (back-lane k i, back-at k i) now
   abbrev back-lane : ℕ → ℕ → ℕ
   back-lane k i = cond (eqb k from && eqb i 0) to k
 
@@ -184,7 +184,7 @@ module _ (t : LinkTable) (from to last head : ℕ)
         within = omega arith;
         same = rw e (ap (λ w. getD w i 0) at-from ∙ getD-drop 1 (was from) i 0);
         to-lane = let n : 1 + i ≡ 0 → ⊥ = λ z. omega arith in rw (eq-eqb from from refl, ne-eqb (1 + i) 0 n) (sym e);
-        to-pos = let n : 1 + i ≡ 0 → ⊥ = λ z. omega arith in rw (eq-eqb from from refl, ne-eqb (1 + i) 0 n) (omega arith);
+        to-pos = let n : 1 + i ≡ 0 → ⊥ = λ z. omega arith in let back : 1 + i - 1 ≡ i = omega arith in rw (eq-eqb from from refl, ne-eqb (1 + i) 0 n) back;
       })
       (λ b. record {
         lane = k;

@@ -4,7 +4,7 @@ use mathlib.Core.Bool.{Bool, true, false, cond, not, _&&_}
 use mathlib.Core.List.{List, [], _∷_, _++_}
 use Prim.Native.Nat.{ℕ, zero, suc, _+_, _≤_}
 use lib.Dec.{eqb, ltb, leb}
-use lib.ListN.{length}
+use lib.ListN.{length, drop}
 use Rattle.std.specs.shelf.Lists.{All}
 use Rattle.std.specs.declared.option.Option.{Option}
 use Rattle.std.specs.declared.option.Option.the-variants.{Some, None}
@@ -37,6 +37,10 @@ room s = s .table .size
 -- how many of them are free
 abbrev pub free : {I : Type 0} → Shelf I → ℕ
 free s = length (spare (s .table))
+
+-- the memory past the first 256 places, which no shelf touches
+abbrev pub beyond : {I : Type 0} → Shelf I → List I
+beyond s = drop 256 (s .places .now)
 
 -- f 0 + .. + f (n - 1)
 abbrev pub sum-below : (ℕ → ℕ) → ℕ → ℕ

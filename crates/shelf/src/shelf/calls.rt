@@ -3,12 +3,13 @@ ghost use mathlib.Core.Path.{_≡_};
 ghost use mathlib.Core.Bool.{cond, false, _&&_};
 ghost use mathlib.Core.List.{[], _∷_, _++_};
 ghost use Prim.Native.Nat.{ℕ, _+_, _<_, min};
+ghost use denote.Ref.{name};
 ghost use lib.Dec.{eqb, ltb};
 ghost use lib.ListN.{length, getD, drop};
 ghost use Rattle.std.specs.Options.{isSome};
 ghost use Rattle.std.specs.Results.{isOk};
 ghost use Rattle.shelf.specs.Chains.{first};
-ghost use Rattle.shelf.specs.Lanes.{lanes, room, free, stored, putting, headed, «rest-of», Priced};
+ghost use Rattle.shelf.specs.Lanes.{lanes, room, free, beyond, stored, putting, headed, «rest-of», Priced};
 use crate::shelf::Shelf;
 use crate::table::LinkTable;
 use base::refusal::Refusal;
@@ -35,6 +36,7 @@ impl<'a, I: Item> Shelf<'a, I> {
         ensures lanes { λ r. ⌜ ((j : ℕ) → lanes r j ≡ []) ⌝ }
         ensures free { λ r. ⌜ free r ≡ min (length (now (places .entry))) 256 ⌝ }
         ensures room { λ r. ⌜ room r ≡ min (length (now (places .entry))) 256 ⌝ }
+        ensures lender { λ r. ⌜ (name (r .places) ≡ name (places .entry)) × (beyond r ≡ drop 256 (now (places .entry))) ⌝ }
         ensures priced { λ r. ⌜ Priced (I·Item .costs) r ⌝ }
     {
         Shelf {
@@ -82,6 +84,7 @@ impl<'a, I: Item> Shelf<'a, I> {
         ensures free { λ r. ⌜ free (now (self .exit)) + cond (isOk r) 1 0 ≡ free (now (self .entry)) ⌝ }
         ensures room { λ _. ⌜ room (now (self .exit)) ≡ room (now (self .entry)) ⌝ }
         ensures refused { λ r. ⌜ (isOk r ≡ false → now (self .exit) ≡ now (self .entry)) ⌝ }
+        ensures lender { λ _. ⌜ (name (now (self .exit) .places) ≡ name (now (self .entry) .places)) × (beyond (now (self .exit)) ≡ beyond (now (self .entry))) ⌝ }
         ensures priced { λ _. ⌜ (Priced (I·Item .costs) (now (self .entry)) → Priced (I·Item .costs) (now (self .exit))) ⌝ }
     {
         if lane >= 64 {
@@ -105,6 +108,7 @@ impl<'a, I: Item> Shelf<'a, I> {
         ensures free { λ r. ⌜ free (now (self .exit)) ≡ free (now (self .entry)) + cond (isSome r) 1 0 ⌝ }
         ensures room { λ _. ⌜ room (now (self .exit)) ≡ room (now (self .entry)) ⌝ }
         ensures none { λ r. ⌜ (isSome r ≡ false → now (self .exit) ≡ now (self .entry)) ⌝ }
+        ensures lender { λ _. ⌜ (name (now (self .exit) .places) ≡ name (now (self .entry) .places)) × (beyond (now (self .exit)) ≡ beyond (now (self .entry))) ⌝ }
         ensures priced { λ _. ⌜ (Priced (I·Item .costs) (now (self .entry)) → Priced (I·Item .costs) (now (self .exit))) ⌝ }
     {
         let Some(place) = self.table.release(lane) else {
@@ -121,6 +125,7 @@ impl<'a, I: Item> Shelf<'a, I> {
         ensures free { λ _. ⌜ free (now (self .exit)) ≡ free (now (self .entry)) ⌝ }
         ensures room { λ _. ⌜ room (now (self .exit)) ≡ room (now (self .entry)) ⌝ }
         ensures none { λ r. ⌜ (isSome r ≡ false → now (self .exit) ≡ now (self .entry)) ⌝ }
+        ensures lender { λ _. ⌜ (name (now (self .exit) .places) ≡ name (now (self .entry) .places)) × (beyond (now (self .exit)) ≡ beyond (now (self .entry))) ⌝ }
         ensures priced { λ _. ⌜ (Priced (I·Item .costs) (now (self .entry)) → Priced (I·Item .costs) (now (self .exit))) ⌝ }
     {
         let Some(place) = self.table.head(lane) else {

@@ -4,6 +4,7 @@ use Prim.Native.Nat.{ℕ, _<_}
 use native.Mathlib.Omega.{arith}
 use lib.Dec.{eqb, ltb}
 use lib.ListN.{length, getD}
+use Rattle.std.proofs.shelf.Lists.{drop-set-lt}
 use Rattle.std.proofs.shelf.Tests.{true≢false, and-parts, ltb-true, cond-true, cond-false, cond-both}
 use Rattle.std.specs.declared.option.Option.the-variants.{Some}
 use Rattle.shelf.specs.Lanes.{lanes}
@@ -28,6 +29,7 @@ returns-then-not-stops-early g c =
       free = refl;
       room = refl;
       none = λ _. refl;
+      lender = (refl, refl);
       priced = λ p. p;
     }
 
@@ -54,5 +56,6 @@ returns g c =
       free = refl;
       room = refl;
       none = λ e. absurd (true≢false e);
+      lender = (refl, drop-set-lt 256 (s .places .now) (c .in-Some .place) (c .rest-rest .result) (omega (arith, c .in-Some .ensures tt .within, t .all .0)));
       priced = λ p. rest-priced costs (lanes s) _ k p x (c .rest-rest .result) d is less (ap costs (c .rest-rest .ensures) ∙ g .I·Item·met .«left_costs» x d less (both .1)) after;
     }

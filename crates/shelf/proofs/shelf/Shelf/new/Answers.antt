@@ -1,4 +1,4 @@
-use mathlib.Core.Path.{_≡_, sym, ap, subst}
+use mathlib.Core.Path.{_≡_, refl, sym, ap, subst}
 use mathlib.Core.List.{[]}
 use Prim.Native.Nat.{ℕ}
 use Rattle.std.specs.shelf.Lists.{All}
@@ -14,5 +14,6 @@ returns g c =
       lanes = none;
       free = c .new .ensures .spare;
       room = c .new .ensures .size;
+      lender = (refl, refl);
       priced = λ j. subst (All (Fair (g .I·Item .costs))) (sym (none j)) tt;
     }

@@ -1,9 +1,10 @@
-use mathlib.Core.Path.{_≡_, sym, ap, subst, _∙_}
+use mathlib.Core.Path.{_≡_, refl, sym, ap, subst, _∙_}
 use Prim.Native.Nat.{ℕ}
 use native.Mathlib.Nat.{add-zero}
 use native.Mathlib.Omega.{arith}
 use lib.Dec.{ltb}
 use lib.ListN.{length}
+use Rattle.std.proofs.shelf.Lists.{drop-set-lt}
 use Rattle.std.proofs.shelf.Tests.{true≢false, cond-true, lt-ltb}
 use Rattle.std.proofs.shelf.Ways.{tells}
 use Rattle.std.specs.shelf.Lists.{All}
@@ -27,6 +28,7 @@ returns-in-rest g c =
       free = add-zero _ ∙ ap (λ t. length (spare t)) same;
       room = ap (λ t. t .size) same;
       refused = λ _. with-table s (c .claim .last .self) _ same;
+      lender = (refl, refl);
       priced = λ p j. subst (All (Fair (g .I·Item .costs))) (sym (after j)) (p j);
     }
 
@@ -43,5 +45,6 @@ returns g c =
       free = more;
       room = h .same;
       refused = λ e. absurd (true≢false e);
+      lender = (refl, drop-set-lt 256 (s .places .now) (c .in-Some .place) (c .args .item) (omega (arith, h .within, t .all .0)));
       priced = λ p. put-priced (g .I·Item .costs) (lanes s) _ (c .args .lane) p (c .args .item) (omega (arith, c .cost-cost .ensures), omega (arith, c .cost-cost .ensures)) after;
     }

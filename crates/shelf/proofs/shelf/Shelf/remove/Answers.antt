@@ -1,4 +1,4 @@
-use mathlib.Core.Path.{_≡_, sym, ap, subst, _∙_}
+use mathlib.Core.Path.{_≡_, refl, sym, ap, subst, _∙_}
 use Prim.Native.Nat.{ℕ, _<_}
 use native.Mathlib.Nat.{add-zero}
 use native.Mathlib.Omega.{arith}
@@ -25,6 +25,7 @@ returns-in-rest g c =
       free = ap (λ t. length (spare t)) same ∙ sym (add-zero _);
       room = ap (λ t. t .size) same;
       none = λ _. with-table s (c .release .last .self) _ same;
+      lender = (refl, refl);
       priced = λ p j. subst (All (Fair (g .I·Item .costs))) (sym (after j)) (p j);
     }
 
@@ -42,5 +43,6 @@ returns g c =
       free = released-free t (c .release .last .self) (c .args .lane) (c .in-Some .place) h;
       room = h .same;
       none = λ e. absurd (true≢false e);
+      lender = (refl, refl);
       priced = λ p. remove-priced (g .I·Item .costs) (lanes s) _ (c .args .lane) p after;
     }
