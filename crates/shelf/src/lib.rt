@@ -1,3 +1,3 @@
 //! Items in lanes over the caller's memory.
 pub mod shelf;
-pub mod table;
+mod table;

@@ -2,7 +2,7 @@
 ghost use Prim.Native.Nat.{_≤_};
 ghost use lib.ListN.{length};
 
-pub mod calls;
+mod calls;
 
 use crate::table::LinkTable;
 

@@ -5,7 +5,7 @@ ghost use lib.ListN.{length};
 ghost use Rattle.std.specs.shelf.Lists.{sum};
 ghost use Rattle.shelf.specs.Chains.{Inside, Apart, Ends};
 
-pub mod calls;
+mod calls;
 
 /// Up to 256 places in 65 chains: lanes 0 to 63, and in the last the free places.
 /// Every place stands in one chain, once.
