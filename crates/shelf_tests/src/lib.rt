@@ -1,4 +1,4 @@
-//! What a shelf does on examples, at quanta and at blocks.
+//! What items and a shelf do on examples, at quanta and at blocks.
 #[cfg(test)]
 mod tests {
     use base::refusal::Refusal;
@@ -28,6 +28,26 @@ mod tests {
 
     fn block(first: u32, length: u32) -> Block {
         Block { first, length }
+    }
+
+    // A quantum may stop anywhere up to its time, a block only at its full length.
+    #[test]
+    fn kinds_stop_where_they_may() -> Result<(), Fail> {
+        for (done, may, rest) in [
+            (0u32, true, 10u32),
+            (8, true, 2),
+            (10, true, 0),
+            (11, false, 10),
+        ] {
+            check_eq(quantum(3, 10).may_stop(done), may)?;
+            check_eq(quantum(3, 10).rest(done), quantum(3, rest))?;
+        }
+        for (done, may) in [(0u32, false), (8, false), (10, true), (11, false)] {
+            check_eq(block(100, 10).may_stop(done), may)?;
+            check_eq(block(100, 10).rest(done), block(100, 10))?;
+        }
+        check_eq(quantum(3, 10).cost(), 10)?;
+        check_eq(block(100, 10).cost(), 10)
     }
 
     // Lanes are told apart, and each gives its items in the order in which they came.
