@@ -1,5 +1,5 @@
 -- What stands at the places of a lane. Assumes nothing.
-use mathlib.Core.Path.{_≡_, refl, sym, ap, ap₂, subst, _∙_}
+use mathlib.Core.Path.{_≡_, refl, sym, ap, ap₂, _∙_}
 use mathlib.Core.Logic.{⊎-elim}
 use mathlib.Core.Bool.{Bool, true, false, cond}
 use mathlib.Core.List.{List, [], _∷_, _++_, append-assoc}
@@ -11,7 +11,7 @@ use Rattle.std.proofs.shelf.Lists.{nil-from-length}
 use Rattle.std.proofs.shelf.Tests.{cases-eq, eq-eqb, ne-eqb, cond-true, cond-false}
 use Rattle.std.specs.declared.option.Option.the-variants.{Some, None}
 use Rattle.shelf.specs.Chains.{first}
-use Rattle.shelf.specs.Tables.{line, spare, Claimed, Released}
+use Rattle.shelf.specs.Tables.{line, Claimed, Released}
 use Rattle.shelf.specs.Lanes.{took, items, headed}
 use Rattle.shelf.specs.declared.table.LinkTable.{LinkTable}
 use Rattle.shelf.proofs.Lines.{no-first, free-alone, head-alone, line-within}

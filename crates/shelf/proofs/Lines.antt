@@ -10,7 +10,7 @@ use lib.ListN.{length, getD, drop}
 use Rattle.std.proofs.shelf.Lists.{length-drop, length-push}
 use Rattle.std.proofs.shelf.Tests.{cases-eq, cases-lt, eq-eqb, ne-eqb, lt-ltb, le-ltb, cond-true, cond-false}
 use Rattle.std.specs.declared.option.Option.the-variants.{Some, None}
-use Rattle.shelf.specs.Chains.{walk, chain, spot, moved, first}
+use Rattle.shelf.specs.Chains.{walk, chain, moved, first}
 use Rattle.shelf.specs.Tables.{line, spare, Claimed, Released}
 use Rattle.shelf.specs.declared.table.LinkTable.{LinkTable}
 use Rattle.shelf.proofs.Walks.{length-walk, walk-first}
@@ -54,43 +54,34 @@ within : (t : LinkTable) (k i : ℕ) → i < length (chain-of t k) → getD (cha
 within t k i l = t .inside k i (subst (λ n. i < n) (length-walk (t .next) _ _) l)
 
 module _ (t t′ : LinkTable) (k p : ℕ) (known : k < 64) (in-table : p < t .size) (same : t′ .size ≡ t .size) where
-  other : k ≡ 64 → ⊥
-  other e = omega arith
+  -- what changes chain k alone among those of the lanes changes lane k alone
+  lined : (f : List ℕ → List ℕ) → ((j : ℕ) → j < 64 → chain-of t′ j ≡ cond (eqb j k) (f (chain-of t k)) (chain-of t j)) → (j : ℕ) → line t′ j ≡ cond (eqb j k) (f (line t j)) (line t j)
+  lined f chains j = ⊎-elim
+      (λ e. let here : line t′ k ≡ f (line t k) = line-in t′ k known ∙ chains k known ∙ cond-true (eqb k k) _ _ (eq-eqb k k refl) ∙ ap f (sym (line-in t k known)) in
+      subst (λ i. line t′ i ≡ cond (eqb i k) (f (line t i)) (line t i)) (sym e) (here ∙ sym (cond-true (eqb k k) _ _ (eq-eqb k k refl))))
+      (λ n. ⊎-elim
+      (λ l. line-in t′ j l ∙ chains j l ∙ cond-false (eqb j k) _ _ (ne-eqb j k n) ∙ sym (line-in t j l))
+      (λ l. line-out t′ j l ∙ sym (line-out t j l))
+      (cases-lt j 64) ∙ sym (cond-false (eqb j k) _ _ (ne-eqb j k n)))
+      (cases-eq j k)
 
   pub claimed : first (spare t) ≡ Some p → ((j : ℕ) → chain-of t′ j ≡ moved (chain-of t) 64 k p j) → Claimed t t′ k p
-  claimed was chains =
-      let here : line t′ k ≡ line t k ++ p ∷ [] = line-in t′ k known ∙ chains k ∙ cond-true (eqb k k) _ _ (eq-eqb k k refl) ∙ ap (λ c. c ++ p ∷ []) (sym (line-in t k known)) in
-      let there : (j : ℕ) → (j ≡ k → ⊥) → j < 64 → line t′ j ≡ line t j = λ j n l.
-      let free : j ≡ 64 → ⊥ = λ e. omega arith in
-      line-in t′ j l ∙ chains j ∙ cond-false (eqb j k) _ _ (ne-eqb j k n) ∙ cond-false (eqb j 64) _ _ (ne-eqb j 64 free) ∙ sym (line-in t j l) in
-      record {
-        was = was;
-        within = in-table;
-        same = same;
-        lines = λ j. ⊎-elim
-            (λ e. subst (λ i. line t′ i ≡ cond (eqb i k) (line t i ++ p ∷ []) (line t i)) (sym e) (here ∙ sym (cond-true (eqb k k) _ _ (eq-eqb k k refl))))
-            (λ n. ⊎-elim (there j n) (λ l. line-out t′ j l ∙ sym (line-out t j l)) (cases-lt j 64) ∙ sym (cond-false (eqb j k) _ _ (ne-eqb j k n)))
-            (cases-eq j k);
-        spares = chains 64 ∙ cond-false (eqb 64 k) _ _ (ne-eqb 64 k (λ e. other (sym e)));
-      }
+  claimed was chains = record {
+    was = was;
+    within = in-table;
+    same = same;
+    lines = lined (λ c. c ++ p ∷ []) (λ j l. let n : j ≡ 64 → ⊥ = λ e. omega arith in chains j ∙ ap (cond (eqb j k) (chain-of t k ++ p ∷ [])) (cond-false (eqb j 64) _ _ (ne-eqb j 64 n)));
+    spares = let n : 64 ≡ k → ⊥ = λ e. omega arith in chains 64 ∙ cond-false (eqb 64 k) _ _ (ne-eqb 64 k n);
+  }
 
   pub released : first (line t k) ≡ Some p → ((j : ℕ) → chain-of t′ j ≡ moved (chain-of t) k 64 p j) → Released t t′ k p
-  released was chains =
-      let free : (j : ℕ) → j < 64 → chain-of t′ j ≡ cond (eqb j k) (drop 1 (chain-of t k)) (chain-of t j) = λ j l.
-      let n : j ≡ 64 → ⊥ = λ e. omega arith in chains j ∙ cond-false (eqb j 64) _ _ (ne-eqb j 64 n) in
-      let here : line t′ k ≡ drop 1 (line t k) = line-in t′ k known ∙ free k known ∙ cond-true (eqb k k) _ _ (eq-eqb k k refl) ∙ ap (drop 1) (sym (line-in t k known)) in
-      let there : (j : ℕ) → (j ≡ k → ⊥) → j < 64 → line t′ j ≡ line t j = λ j n l.
-      line-in t′ j l ∙ free j l ∙ cond-false (eqb j k) _ _ (ne-eqb j k n) ∙ sym (line-in t j l) in
-      record {
-        was = was;
-        within = in-table;
-        same = same;
-        lines = λ j. ⊎-elim
-            (λ e. subst (λ i. line t′ i ≡ cond (eqb i k) (drop 1 (line t i)) (line t i)) (sym e) (here ∙ sym (cond-true (eqb k k) _ _ (eq-eqb k k refl))))
-            (λ n. ⊎-elim (there j n) (λ l. line-out t′ j l ∙ sym (line-out t j l)) (cases-lt j 64) ∙ sym (cond-false (eqb j k) _ _ (ne-eqb j k n)))
-            (cases-eq j k);
-        spares = chains 64;
-      }
+  released was chains = record {
+    was = was;
+    within = in-table;
+    same = same;
+    lines = lined (drop 1) (λ j l. let n : j ≡ 64 → ⊥ = λ e. omega arith in chains j ∙ cond-false (eqb j 64) _ _ (ne-eqb j 64 n));
+    spares = chains 64;
+  }
 
 first-is : (next : List ℕ) (n q p : ℕ) → first (walk next n q) ≡ Some p → (0 < n) × (getD (walk next n q) 0 0 ≡ p)
 first-is next zero q p e = absurd (never p e)

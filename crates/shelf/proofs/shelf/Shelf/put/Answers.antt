@@ -1,5 +1,4 @@
 use mathlib.Core.Path.{_≡_, refl, sym, ap, subst, _∙_}
-use Prim.Native.Nat.{ℕ}
 use native.Mathlib.Nat.{add-zero}
 use native.Mathlib.Omega.{arith}
 use lib.Dec.{ltb}
@@ -7,12 +6,11 @@ use lib.ListN.{length}
 use Rattle.std.proofs.shelf.Lists.{drop-set-lt}
 use Rattle.std.proofs.shelf.Tests.{true≢false, cond-true, lt-ltb}
 use Rattle.std.proofs.shelf.Ways.{tells}
-use Rattle.std.specs.shelf.Lists.{All}
-use Rattle.shelf.specs.Lanes.{items, lanes}
-use Rattle.shelf.specs.Tables.{line, spare}
+use Rattle.shelf.specs.Lanes.{lanes, room, free, Priced}
+use Rattle.shelf.specs.Tables.{spare}
 use Rattle.shelf.proofs.Items.{put-lane}
 use Rattle.shelf.proofs.Lines.{no-first, claimed-free}
-use Rattle.shelf.proofs.Prices.{Fair, put-priced}
+use Rattle.shelf.proofs.Prices.{put-priced}
 use Rattle.shelf.proofs.Shelves.{with-table}
 use Rattle.shelf.proofs.shelf.Shelf.put.Needs as need
 
@@ -21,15 +19,15 @@ returns-in-rest g c =
     let s = c .args .self .now in
     let same = c .in-rest .ensures tt .after in
     let full : length (spare (s .table)) ≡ 0 = no-first (spare (s .table)) (c .in-rest .ensures tt .value ∙ cond-true (ltb (c .args .lane) 64) _ _ (lt-ltb (c .args .lane) 64 (omega arith))) in
-    let after : (j : ℕ) → items (s .places .now) (line (c .claim .last .self) j) ≡ lanes s j = λ j. ap (λ t. items (s .places .now) (line t j)) same in
+    let whole = with-table s (c .claim .last .self) _ same in
     record {
       answer = grind (arith, tells, full, c .cost-cost .ensures);
-      lanes = after;
-      free = add-zero _ ∙ ap (λ t. length (spare t)) same;
-      room = ap (λ t. t .size) same;
-      refused = λ _. with-table s (c .claim .last .self) _ same;
+      lanes = λ j. ap (λ u. lanes u j) whole;
+      free = add-zero _ ∙ ap free whole;
+      room = ap room whole;
+      refused = λ _. whole;
       lender = (refl, refl);
-      priced = λ p j. subst (All (Fair (g .I·Item .costs))) (sym (after j)) (p j);
+      priced = subst (Priced (g .I·Item .costs)) (sym whole);
     }
 
 pub returns : need.returns

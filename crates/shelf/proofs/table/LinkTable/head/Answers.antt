@@ -1,7 +1,5 @@
-use mathlib.Core.Path.{sym, ap, subst, _∙_}
-use Prim.Native.Nat.{_<_}
+use mathlib.Core.Path.{sym, ap, _∙_}
 use native.Mathlib.Omega.{arith}
-use lib.ListN.{length, getD}
 use Rattle.shelf.specs.Chains.{first}
 use Rattle.shelf.proofs.Lines.{line-in, known, some-in, first-walk, first-within}
 use Rattle.shelf.proofs.table.LinkTable.head.Needs as need

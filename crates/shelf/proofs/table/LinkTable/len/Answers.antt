@@ -1,7 +1,7 @@
 use mathlib.Core.Path.{sym, ap, _∙_}
 use native.Mathlib.Omega.{arith}
 use lib.ListN.{length}
-use Rattle.shelf.proofs.Lines.{line-in, line-out}
+use Rattle.shelf.proofs.Lines.{line-in}
 use Rattle.shelf.proofs.Walks.{length-walk}
 use Rattle.shelf.proofs.table.LinkTable.len.Needs as need
 

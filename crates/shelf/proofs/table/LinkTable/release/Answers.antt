@@ -1,7 +1,5 @@
 use mathlib.Core.Path.{sym, ap, _∙_}
-use Prim.Native.Nat.{_<_}
 use native.Mathlib.Omega.{arith}
-use lib.ListN.{getD}
 use Rattle.std.specs.declared.option.Option.the-variants.{Some}
 use Rattle.shelf.specs.Chains.{first}
 use Rattle.shelf.proofs.Lines.{line-in, known, some-in, first-walk, released}
