@@ -1,7 +1,9 @@
 -- What a shelf means: for each lane the list of its items, and how many places are free.
+use mathlib.Core.Path.{_≡_}
 use mathlib.Core.Bool.{Bool, cond, not, _&&_}
 use mathlib.Core.List.{List, [], _∷_, _++_}
 use Prim.Native.Nat.{ℕ, zero, suc, _+_, _≤_}
+use denote.Ref.{name}
 use lib.Dec.{eqb, ltb, leb}
 use lib.ListN.{length, drop}
 use Rattle.std.specs.shelf.Lists.{All}
@@ -40,6 +42,10 @@ free s = length (spare (s .table))
 -- the memory past the first 256 places, which no shelf touches
 abbrev pub beyond : {I : Type 0} → Shelf I → List I
 beyond s = drop 256 (s .places .now)
+
+-- the shelf still holds the memory that it was lent, and past the first 256 places that is as it was
+abbrev pub Lent : {I : Type 0} → Shelf I → Shelf I → Type 0
+Lent s s′ = (name (s′ .places) ≡ name (s .places)) × (beyond s′ ≡ beyond s)
 
 -- f 0 + .. + f (n - 1)
 abbrev pub sum-below : (ℕ → ℕ) → ℕ → ℕ

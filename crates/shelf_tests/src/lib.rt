@@ -88,13 +88,14 @@ mod tests {
         check_eq(shelf.free(), room)
     }
 
-    // Its places are those of the slice, up to the first 256.
+    // Its places are those of the slice, up to the first 256; the memory behind them is left alone.
     #[test]
     fn places_are_those_of_the_slice() -> Result<(), Fail> {
         for (places, room) in [(0usize, 0u16), (1, 1), (256, 256), (300, 256)] {
             check(places <= 300)?;
             let mut memory = [NO_BLOCK; 300];
             fills_and_empties(&mut memory[0..places], room)?;
+            check_eq(memory[256], NO_BLOCK)?;
         }
         Ok(())
     }

@@ -9,7 +9,7 @@ ghost use lib.ListN.{length, getD, drop};
 ghost use Rattle.std.specs.Options.{isSome};
 ghost use Rattle.std.specs.Results.{isOk};
 ghost use Rattle.shelf.specs.Chains.{first};
-ghost use Rattle.shelf.specs.Lanes.{lanes, room, free, beyond, stored, putting, headed, «rest-of», Priced};
+ghost use Rattle.shelf.specs.Lanes.{lanes, room, free, beyond, stored, putting, headed, «rest-of», Lent, Priced};
 use crate::shelf::Shelf;
 use crate::table::LinkTable;
 use base::refusal::Refusal;
@@ -77,14 +77,15 @@ impl<'a, I: Item> Shelf<'a, I> {
         Some(read(self.places, place as usize))
     }
 
-    /// Puts an item at the end of a lane.
+    /// Puts an item at the end of a lane. Refused, with nothing altered, by the first of these:
+    /// the lane is above 63, the cost is not from 1 to 65,535, all places hold items.
     pub fn put(&mut self, lane: u8, item: I) -> Result<(), Refusal>
         ensures answer { λ r. ⌜ r ≡ putting lane (I·Item .costs item) (free (now (self .entry))) ⌝ }
         ensures lanes { λ r. ⌜ ((j : ℕ) → lanes (now (self .exit)) j ≡ cond (isOk r && eqb j lane) (lanes (now (self .entry)) j ++ item ∷ []) (lanes (now (self .entry)) j)) ⌝ }
         ensures free { λ r. ⌜ free (now (self .exit)) + cond (isOk r) 1 0 ≡ free (now (self .entry)) ⌝ }
         ensures room { λ _. ⌜ room (now (self .exit)) ≡ room (now (self .entry)) ⌝ }
         ensures refused { λ r. ⌜ (isOk r ≡ false → now (self .exit) ≡ now (self .entry)) ⌝ }
-        ensures lender { λ _. ⌜ (name (now (self .exit) .places) ≡ name (now (self .entry) .places)) × (beyond (now (self .exit)) ≡ beyond (now (self .entry))) ⌝ }
+        ensures lender { λ _. ⌜ Lent (now (self .entry)) (now (self .exit)) ⌝ }
         ensures priced { λ _. ⌜ (Priced (I·Item .costs) (now (self .entry)) → Priced (I·Item .costs) (now (self .exit))) ⌝ }
     {
         if lane >= 64 {
@@ -108,7 +109,7 @@ impl<'a, I: Item> Shelf<'a, I> {
         ensures free { λ r. ⌜ free (now (self .exit)) ≡ free (now (self .entry)) + cond (isSome r) 1 0 ⌝ }
         ensures room { λ _. ⌜ room (now (self .exit)) ≡ room (now (self .entry)) ⌝ }
         ensures none { λ r. ⌜ (isSome r ≡ false → now (self .exit) ≡ now (self .entry)) ⌝ }
-        ensures lender { λ _. ⌜ (name (now (self .exit) .places) ≡ name (now (self .entry) .places)) × (beyond (now (self .exit)) ≡ beyond (now (self .entry))) ⌝ }
+        ensures lender { λ _. ⌜ Lent (now (self .entry)) (now (self .exit)) ⌝ }
         ensures priced { λ _. ⌜ (Priced (I·Item .costs) (now (self .entry)) → Priced (I·Item .costs) (now (self .exit))) ⌝ }
     {
         let Some(place) = self.table.release(lane) else {
@@ -125,7 +126,7 @@ impl<'a, I: Item> Shelf<'a, I> {
         ensures free { λ _. ⌜ free (now (self .exit)) ≡ free (now (self .entry)) ⌝ }
         ensures room { λ _. ⌜ room (now (self .exit)) ≡ room (now (self .entry)) ⌝ }
         ensures none { λ r. ⌜ (isSome r ≡ false → now (self .exit) ≡ now (self .entry)) ⌝ }
-        ensures lender { λ _. ⌜ (name (now (self .exit) .places) ≡ name (now (self .entry) .places)) × (beyond (now (self .exit)) ≡ beyond (now (self .entry))) ⌝ }
+        ensures lender { λ _. ⌜ Lent (now (self .entry)) (now (self .exit)) ⌝ }
         ensures priced { λ _. ⌜ (Priced (I·Item .costs) (now (self .entry)) → Priced (I·Item .costs) (now (self .exit))) ⌝ }
     {
         let Some(place) = self.table.head(lane) else {

@@ -14,10 +14,10 @@ use crate::table::LinkTable;
 // The chain of the free places.
 const FREE: usize = 64;
 
-fn pick(first: bool, a: u16, b: u16) -> u16
-    ensures { λ r. ⌜ r ≡ cond first a b ⌝ }
+fn pick(yes: bool, a: u16, b: u16) -> u16
+    ensures { λ r. ⌜ r ≡ cond yes a b ⌝ }
 {
-    if first { a } else { b }
+    if yes { a } else { b }
 }
 
 impl LinkTable {
