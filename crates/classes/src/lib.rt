@@ -1,0 +1,2 @@
+//! The classes of a tree: their names, their table, and the draft that a tree is opened from.
+pub mod name;
