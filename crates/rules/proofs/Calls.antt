@@ -1,17 +1,18 @@
 -- A call is refused and changes nothing, or it passes every check of the table and has its answer and its effect. Assumes nothing.
 use mathlib.Core.Bool.{Bool, true, false, not, cond}
 use mathlib.Core.List.{List, [], _∷_}
-use mathlib.Core.Path.{_≡_, refl, sym, ap, subst₂, _∙_}
-use Prim.Native.Nat.{ℕ, zero, suc, _+_, _≤_, _<_}
+use mathlib.Core.Path.{_≡_, refl, sym, ap, subst, subst₂, _∙_}
+use Prim.Native.Nat.{ℕ, zero, suc, _+_, _≤_}
 use lib.ListN.{length}
+use Rattle.std.specs.Orderings.{Decides}
 use Rattle.std.specs.declared.option.Option.{Option}
 use Rattle.std.specs.declared.option.Option.the-variants.{Some, None}
 use Rattle.std.proofs.shelf.Tests.{eqb-true, eq-eqb, ltb-true, ltb-false, lt-ltb, le-ltb, leb-true, leb-false, le-leb, lt-leb, and-parts, and-from, or-parts, or-from, not-false, not-from-true, both-ways}
 use Rattle.base.specs.declared.refusal.Refusal.{Refusal}
 use Rattle.rules.specs.Kind.{Kind}
-use Rattle.rules.specs.State.{Opening, fresh, Turn, State, is-open, turn-of, backlogged, picked, stored, mismatch, open-turn, to-do}
-use Rattle.rules.specs.Rules.{Grant, Call, submit, dispatch, pulse, end-turn, give-up, Answer, refused, first, head-cost, may-stop, wrong-grant, table, refusal, answer, effect, Says, Step}
-use Rattle.rules.specs.Ready.{Names, Ready}
+use Rattle.rules.specs.State.{Opening, fresh, Turn, State, is-open, turn-of, picked, stored, mismatch, open-turn, to-do}
+use Rattle.rules.specs.Rules.{Grant, Call, submit, dispatch, pulse, end-turn, give-up, Answer, refused, first, head-cost, wrong-grant, table, refusal, answer, effect, Says, Step}
+use Rattle.rules.specs.Ready.{Names, Ready, is-accepted, Accepts}
 use Rattle.rules.specs.History.{Entry, entry, Run, opened, made}
 use Rattle.rules.proofs.Tests.{not-some}
 
@@ -140,6 +141,23 @@ module _ {I : Type 0} (K : Kind I) where
       by : (r : Option Refusal) → refusal K s c ≡ r → Says K r s c a s′ → P c a s′
       by (Some n) e q = subst₂ (P c) (sym (q .0)) (sym (q .1)) (stays c n)
       by None e q = subst₂ (P c) (sym (q .2)) (sym (q .3)) (moves c (q .0) (ready s c e) (q .1))
+
+  -- the answer of an accepted call is no refusal
+  answered : (s : State I) (c : Call I) (d : ℕ) → is-accepted (answer K s c d) ≡ true
+  answered s (submit c x) d = refl
+  answered s dispatch d = refl
+  answered s (pulse g) d = refl
+  answered s (end-turn g) d = refl
+  answered s (give-up g) d = refl
+
+  -- so a call is accepted exactly when it is ready
+  pub accepts : Accepts K
+  accepts s c a s′ st = by-step s (λ c a s′. Step K s c a s′ → Decides (is-accepted a) (Ready K s c))
+      (λ c e now. (
+        λ yes. absurd (both-ways _ refl yes),
+        λ r. let (d, _, says, _) = subst (λ o. Says K o s c (refused e) s) (passes s c r) now in ap is-accepted says ∙ answered s c d,
+      ))
+      (λ c d r _ _. (λ _. r, λ _. answered s c d)) c a s′ st st
 
   -- what holds at the opening, and is kept by each refusal and by each ready call, holds after every history
   pub by-calls : (o : Opening) (P : List (Entry I) → State I → Type 0) → P [] (fresh o) →

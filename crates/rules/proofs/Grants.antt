@@ -1,20 +1,20 @@
 -- A turn is closed only through its own grant, and no grant is given twice. Assumes nothing.
 use mathlib.Core.List.{List, [], _∷_}
 use mathlib.Core.Logic.{inl, inr}
-use mathlib.Core.Path.{_≡_, sym, ap, ap₂, _∙_}
+use mathlib.Core.Path.{_≡_, refl, sym, ap, ap₂, _∙_}
 use Prim.Native.Nat.{ℕ, _+_, _≤_}
 use native.Mathlib.Omega.{arith}
 use Rattle.std.specs.declared.option.Option.{Option}
-use Rattle.std.specs.declared.option.Option.the-variants.{Some}
+use Rattle.std.specs.declared.option.Option.the-variants.{Some, None}
 use Rattle.rules.specs.Kind.{Kind}
 use Rattle.rules.specs.State.{Opening, State}
-use Rattle.rules.specs.Rules.{Grant, Call, submit, dispatch, pulse, end-turn, give-up, answer}
+use Rattle.rules.specs.Rules.{Grant, Call, submit, dispatch, pulse, end-turn, give-up, refused, answer}
 use Rattle.rules.specs.Ready.{Names, Ready}
 use Rattle.rules.specs.History.{Entry, entry, Run, grant-of, grant-after, given, counted, turns-given, taken, Always, Sometime}
 use Rattle.rules.specs.Laws.{Keyed, Foreign}
 use Rattle.rules.proofs.Tests.{not-some, some-same}
 use Rattle.rules.proofs.Calls.{by-calls}
-use Rattle.rules.proofs.Steady.{told-turn, steady}
+use Rattle.rules.proofs.Consistent.{told-turn, consistent}
 
 -- what holds of each call holds of some call that also has another property
 pub sometime : {I : Type 0} {P Q : Entry I → List (Entry I) → Type 0} {R : Type 0} (h : List (Entry I)) → ((e : Entry I) (before : List (Entry I)) → P e before → Q e before → R) → Always P h → Sometime Q h → R
@@ -41,36 +41,41 @@ module _ {I : Type 0} (o : Opening) where
   module _ (K : Kind I) where
     -- what each call shows of grants
     record Keys (h : List (Entry I)) : Type 0 where
-      named : Always (λ e before. (g : Grant) → taken e ≡ Some g → grant-after before ≡ Some g) h
-      housed : Always (λ e before. (g : Grant) → taken e ≡ Some g → g .house ≡ o .house) h
+      named : Always (λ e before. (g : Grant) → taken e ≡ Some g → (grant-after before ≡ Some g) × (g .house ≡ o .house)) h
       numbered : Always Numbered h
 
+    -- a call that neither takes nor answers a grant
+    keyless : (e : Entry I) (h : List (Entry I)) → taken e ≡ None → given e ≡ None → Keys h → Keys (e ∷ h)
+    keyless e h no-taken no-given k = record { named = (λ g is. absurd (not-some (sym no-taken ∙ is)), k .named); numbered = (λ g is. absurd (not-some (sym no-given ∙ is)), k .numbered) }
+
     module _ (h : List (Entry I)) (s : State I) (r : Run K o h s) (k : Keys h) where
-      -- a call that names the open turn's grant
-      names-grant : (x : Grant) → Names K s x → (g : Grant) → Some x ≡ Some g → (grant-after h ≡ Some g) × (g .house ≡ o .house)
-      names-grant x n g e = (
-        ap grant-of (told-turn K o (steady K o r) (n .opened)) ∙ ap₂ {C = Option (Grant)} (λ a b. Some (record { house = a; turn = b })) (sym (n .house)) (sym (n .turn)) ∙ e,
-        ap (λ (p : Grant). p .house) (sym (some-same e)) ∙ n .house ∙ steady K o r .frame .0,
-      )
+      -- a call that names the open turn's grant, and answers none
+      names-grant : (e : Entry I) (x : Grant) → Names K s x → taken e ≡ Some x → given e ≡ None → Keys (e ∷ h)
+      names-grant e x n took no-given = record {
+        named = (
+          λ g is. let same : g ≡ x = some-same (sym is ∙ took) in (
+            ap grant-of (told-turn K o (consistent K o r) (n .opened)) ∙ ap₂ {C = Option Grant} (λ a b. Some (record { house = a; turn = b })) (sym (n .house)) (sym (n .turn)) ∙ ap Some (sym same),
+            ap (λ (y : Grant). y .house) same ∙ n .house ∙ consistent K o r .frame .0,
+          ),
+          k .named,
+        );
+        numbered = (λ g is. absurd (not-some (sym no-given ∙ is)), k .numbered);
+      }
 
       -- each accepted call keeps to its grants
       keys-after : (c : Call I) (d : ℕ) → Ready K s c → Keys (entry c (answer K s c d) ∷ h)
-      keys-after (submit c x) d p = record { named = (λ g e. absurd (not-some e), k .named); housed = (λ g e. absurd (not-some e), k .housed); numbered = (λ g e. absurd (not-some e), k .numbered) }
+      keys-after (submit c x) d p = keyless _ h refl refl k
       keys-after dispatch d p = record {
-        named = (λ g e. absurd (not-some e), k .named);
-        housed = (λ g e. absurd (not-some e), k .housed);
-        numbered = (λ g e. sym (some-same e) ∙ ap₂ {C = Grant} (λ a b. record { house = a; turn = b + 1 }) (steady K o r .frame .0) (steady K o r .turns), k .numbered);
+        named = (λ g is. absurd (not-some is), k .named);
+        numbered = (λ g is. sym (some-same is) ∙ ap₂ {C = Grant} (λ a b. record { house = a; turn = b + 1 }) (consistent K o r .frame .0) (consistent K o r .turns), k .numbered);
       }
-      keys-after (pulse x) d p = record { named = (λ g e. names-grant x p g e .0, k .named); housed = (λ g e. names-grant x p g e .1, k .housed); numbered = (λ g e. absurd (not-some e), k .numbered) }
-      keys-after (end-turn x) d (p, _) = record { named = (λ g e. names-grant x p g e .0, k .named); housed = (λ g e. names-grant x p g e .1, k .housed); numbered = (λ g e. absurd (not-some e), k .numbered) }
-      keys-after (give-up x) d (p, _) = record { named = (λ g e. names-grant x p g e .0, k .named); housed = (λ g e. names-grant x p g e .1, k .housed); numbered = (λ g e. absurd (not-some e), k .numbered) }
+      keys-after (pulse x) d p = names-grant (entry (pulse x) (answer K s (pulse x) d)) x p refl refl
+      keys-after (end-turn x) d (p, _) = names-grant (entry (end-turn x) (answer K s (end-turn x) d)) x p refl refl
+      keys-after (give-up x) d (p, _) = names-grant (entry (give-up x) (answer K s (give-up x) d)) x p refl refl
 
     -- every history does
     keys : {h : List (Entry I)} {s : State I} → Run K o h s → Keys h
-    keys = by-calls K o (λ h s. Keys h)
-        (record { named = tt; housed = tt; numbered = tt })
-        (λ h s c n _ k. record { named = (λ g e. absurd (not-some e), k .named); housed = (λ g e. absurd (not-some e), k .housed); numbered = (λ g e. absurd (not-some e), k .numbered) })
-        (λ h s c d r p _ k. keys-after h s r k c d p)
+    keys = by-calls K o (λ h s. Keys h) (record { named = tt; numbered = tt }) (λ h s c e _ k. keyless (entry c (refused e)) h refl refl k) (λ h s c d r p _ k. keys-after h s r k c d p)
 
     -- every history keeps to its grants
     pub keyed : {h : List (Entry I)} {s : State I} → Run K o h s → Keyed o h
@@ -80,5 +85,5 @@ module _ {I : Type 0} (o : Opening) where
 pub foreign : {I : Type 0} (K : Kind I) → Foreign K
 foreign K o o′ apart h h′ s s′ r r′ g was is =
     let one : g .house ≡ o .house = sometime h (λ e before p q. ap (λ (x : Grant). x .house) (p g q)) (keyed o K r .numbered) was in
-    let other : g .house ≡ o′ .house = sometime h′ (λ e before p q. p g q) (keys o′ K r′ .housed) is in
+    let other : g .house ≡ o′ .house = sometime h′ (λ e before p q. p g q .1) (keyed o′ K r′ .named) is in
     apart (sym one ∙ other)

@@ -18,22 +18,22 @@ use Rattle.rules.specs.History.{Entry, Run}
 use Rattle.rules.specs.Laws.{Within, Metered}
 use Rattle.rules.proofs.Tree.{under-le}
 use Rattle.rules.proofs.Calls.{by-calls}
-use Rattle.rules.proofs.Steady.{steady, sound, weighed, open-known}
+use Rattle.rules.proofs.Consistent.{consistent, sound, weighed, open-known}
 use Rattle.rules.proofs.Shares.{parts-exact}
-use Rattle.rules.proofs.Conservation.{stock}
+use Rattle.rules.proofs.Conservation.{balanced}
 
 module _ {I : Type 0} (K : Kind I) (o : Opening) (ok : Valid o) where
   module _ {h : List (Entry I)} {s : State I} (r : Run K o h s) (q : Within (s .tags) (720720 * s .meter)) where
     -- d units are no more than d * 720,720 parts
     parts-le : (d k : ℕ) → k < s .shape .count → charged d (s .weight k) ≤ 720720 * d
     parts-le d k lt =
-        let w = weighed K o ok (steady K o r) k lt in
+        let w = weighed K o ok (consistent K o r) k lt in
         omega (arith, parts-exact (s .weight k) (w .0) (w .1) d, mul-le-mul-right (charged d (s .weight k)) (w .0), mul-comm (s .weight k) (charged d (s .weight k)))
 
     -- so a closing lifts no finish tag higher than the meter
     reached-le : (c d k : ℕ) → c < s .shape .count → reached s c d k ≤ 720720 * (s .meter + d)
     reached-le c d k lt = let (start, finish, _) = q k in elim (cases-bool (under (s .shape) k c)) [
-      | inl on ↦ let p = parts-le d k (omega (arith, under-le (sound K o ok (steady K o r)) k c on)) in grind (arith, tells)
+      | inl on ↦ let p = parts-le d k (omega (arith, under-le (sound K o ok (consistent K o r)) k c on)) in grind (arith, tells)
       | inr off ↦ grind (arith, tells)
     ]
 
@@ -59,4 +59,4 @@ module _ {I : Type 0} (K : Kind I) (o : Opening) (ok : Valid o) where
 
   -- every history keeps its tags within its meter, which counts all charges
   pub metered : KindLaws K → {h : List (Entry I)} {s : State I} → Run K o h s → Metered o h s
-  metered laws r = record { tags = within r; meter = rw (steady K o r .frame .1) at (stock K laws o ok r .meter) }
+  metered laws r = record { tags = within r; meter = rw (consistent K o r .frame .1) at (balanced K laws o ok r .meter) }

@@ -8,7 +8,7 @@ use lib.Dec.{eqb, ltb}
 use Rattle.std.proofs.shelf.Tests.{cases-eq, cases-lt, cases-order, cases-bool, eqb-true, eq-eqb, ne-eqb, lt-ltb, and-parts, and-from, and-left, and-right, both-ways, cond-true, cond-false}
 use Rattle.rules.specs.Shape.{Shape, climb, Sound, any, under, child, leaf}
 use Rattle.rules.specs.State.{sum, put, backlogged-by}
-use Rattle.rules.specs.Laws.{rank, member, subtree, Inside}
+use Rattle.rules.specs.Alone.{rank, member, subtree, Inside}
 use Rattle.rules.proofs.Tests.{no-test, same-test, cond-same}
 use Rattle.rules.proofs.Tree.{Below, here, up, below-trans, under-below, below-under, below-le, child-decides}
 
@@ -213,7 +213,7 @@ module _ {t u : Shape} {g : ℕ} (part : Part t g u) where
       (subst (Below u (rank t g k)) (sym (part .parent l j apart)) (under-in k (t .parent l) i (parent-inside l j apart) x))
 
   -- and the other way round
-  pub under-out : (k : ℕ) {m : ℕ} (l : ℕ) → Inside t g k → Inside t g l → m ≡ rank t g l → Below u (rank t g k) m → Below t k l
+  under-out : (k : ℕ) {m : ℕ} (l : ℕ) → Inside t g k → Inside t g l → m ≡ rank t g l → Below u (rank t g k) m → Below t k l
   under-out k l i j e (here z) = here (rank-same t g l k (j .1) (i .1) (sym e ∙ z))
   under-out k {m} l i j e (up pos x) =
       let apart : l ≡ g → ⊥ = (λ z. omega (arith, ap (rank t g) z, rank-root)) in

@@ -1,4 +1,5 @@
--- A history of calls with their answers, the newest first, and what can be read off it alone. Assumes nothing.
+-- A history of calls with their answers, the newest first, and what can be read off it alone. A moment lies before, between or after
+-- calls: it is given by the calls so far. Assumes nothing.
 use mathlib.Core.Bool.{Bool, true, false, not, _&&_, cond}
 use mathlib.Core.List.{List, [], _∷_, _++_}
 use mathlib.Core.Logic.{_⊎_}
@@ -12,16 +13,17 @@ use Rattle.rules.specs.Kind.{Kind}
 use Rattle.rules.specs.State.{Opening, fresh, State}
 use Rattle.rules.specs.Rules.{Grant, Call, submit, dispatch, pulse, end-turn, give-up, Answer, refused, accepted, granted, worked, closed, Step}
 
+-- a call with its answer
 pub record Entry (I : Type 0) : Type 0 where
   pub call : Call I
   pub answer : Answer
 
--- a call with its answer
+-- the same, written short
 abbrev pub entry : {I : Type 0} → Call I → Answer → Entry I
 entry c a = record { call = c; answer = a }
 
--- the histories of the calls on a newly opened tree with an empty shelf, and the state each leads to
 module _ {I : Type 0} (K : Kind I) (o : Opening) where
+  -- the histories of calls on a newly opened tree with an empty shelf, refused calls among them, and the state that each leads to
   pub data Run : List (Entry I) → State I → Type 0 where
     opened : Run [] (fresh o)
     made : {h : List (Entry I)} {s s′ : State I} {e : Entry I} → Run h s → Step K s (e .call) (e .answer) s′ → Run (e ∷ h) s′
@@ -81,16 +83,21 @@ module _ {I : Type 0} where
   abbrev pub grant-after : List (Entry I) → Option Grant
   grant-after h = grant-of (turn-after h)
 
-  -- what one answer charges to class k
+  -- what one call, made after h, charges to class k: a closing charges its answer to the leaf that its turn served and to each class above
   abbrev pub charge : Shape → ℕ → Entry I → List (Entry I) → ℕ
   charge t k e h = elim (e .answer) [ refused e ↦ 0 | accepted ↦ 0 | granted g l c ↦ 0 | worked d ↦ 0 | closed d ↦ cond (serves t k h) d 0 ]
 
-  -- what a history charges to class k
+  -- what a whole history charges to class k
   abbrev pub charges : Shape → ℕ → List (Entry I) → ℕ
   charges t k [] = 0
   charges t k (e ∷ h) = charge t k e h + charges t k h
 
-  -- its largest single charge
+  -- what it is charged between two moments: by the calls of after, which follow on those of before
+  abbrev pub between : Shape → ℕ → List (Entry I) → List (Entry I) → ℕ
+  between t k [] before = 0
+  between t k (e ∷ after) before = charge t k e (after ++ before) + between t k after before
+
+  -- its largest single charge in a history, or 0
   abbrev pub largest : Shape → ℕ → List (Entry I) → ℕ
   largest t k [] = 0
   largest t k (e ∷ h) = max (charge t k e h) (largest t k h)
@@ -139,47 +146,47 @@ none (x ∷ xs) = false
 
 module _ {I : Type 0} (K : Kind I) where
   -- the items of leaf l after an accepted call: a submission to l puts its item behind the others
-  abbrev pub joined : ℕ → Call I → List (Waiting I) → List (Waiting I)
-  joined l (submit c x) ws = cond (eqb c l) (ws ++ record { item = x; cost = K .costs x; ended = 0 } ∷ []) ws
-  joined l dispatch ws = ws
-  joined l (pulse g) ws = ws
-  joined l (end-turn g) ws = ws
-  joined l (give-up g) ws = ws
+  abbrev pub after-submission : ℕ → Call I → List (Waiting I) → List (Waiting I)
+  after-submission l (submit c x) ws = cond (eqb c l) (ws ++ record { item = x; cost = K .costs x; ended = 0 } ∷ []) ws
+  after-submission l dispatch ws = ws
+  after-submission l (pulse g) ws = ws
+  after-submission l (end-turn g) ws = ws
+  after-submission l (give-up g) ws = ws
 
   -- the items after d units of the first are done in an ended turn: it leaves when all its cost is done
-  abbrev pub worn : List (Waiting I) → ℕ → List (Waiting I)
-  worn [] d = []
-  worn (w ∷ ws) d = cond (eqb (w .ended + d) (w .cost)) ws (record { item = K .left (w .item) d; cost = w .cost; ended = w .ended + d } ∷ ws)
+  abbrev pub after-ending : List (Waiting I) → ℕ → List (Waiting I)
+  after-ending [] d = []
+  after-ending (w ∷ ws) d = cond (eqb (w .ended + d) (w .cost)) ws (record { item = K .left (w .item) d; cost = w .cost; ended = w .ended + d } ∷ ws)
 
   -- the same at leaf l, if the turn served it
-  abbrev pub worn-in : ℕ → Option Service → ℕ → List (Waiting I) → List (Waiting I)
-  worn-in l None d ws = ws
-  worn-in l (Some u) d ws = cond (eqb (u .leaf) l) (worn ws d) ws
+  abbrev pub ended-in : ℕ → Option Service → ℕ → List (Waiting I) → List (Waiting I)
+  ended-in l None d ws = ws
+  ended-in l (Some u) d ws = cond (eqb (u .leaf) l) (after-ending ws d) ws
 
   -- the items of leaf l after a closing: only an ending of a turn that served l changes them
-  abbrev pub left-by : ℕ → Call I → Option Service → ℕ → List (Waiting I) → List (Waiting I)
-  left-by l (end-turn g) u d ws = worn-in l u d ws
-  left-by l (submit c x) u d ws = ws
-  left-by l dispatch u d ws = ws
-  left-by l (pulse g) u d ws = ws
-  left-by l (give-up g) u d ws = ws
+  abbrev pub after-closing : ℕ → Call I → Option Service → ℕ → List (Waiting I) → List (Waiting I)
+  after-closing l (end-turn g) u d ws = ended-in l u d ws
+  after-closing l (submit c x) u d ws = ws
+  after-closing l dispatch u d ws = ws
+  after-closing l (pulse g) u d ws = ws
+  after-closing l (give-up g) u d ws = ws
 
   -- the items that are in leaf l after h
   abbrev pub waiting : ℕ → List (Entry I) → List (Waiting I)
   waiting l [] = []
   waiting l (e ∷ h) = elim (e .answer) [
     | refused e ↦ waiting l h
-    | accepted ↦ joined l (e .call) (waiting l h)
+    | accepted ↦ after-submission l (e .call) (waiting l h)
     | granted g k c ↦ waiting l h
     | worked d ↦ waiting l h
-    | closed d ↦ left-by l (e .call) (turn-after h) d (waiting l h)
+    | closed d ↦ after-closing l (e .call) (turn-after h) d (waiting l h)
   ]
 
   -- an item is in a leaf at or below k
   abbrev pub has-work : Shape → ℕ → List (Entry I) → Bool
   has-work t k h = any (λ l. under t k l && not (none (waiting l h))) (t .count)
 
-  -- k has work at each moment from the end of h to the end of m ++ h
+  -- k has work at each moment from the end of before to the end of after
   abbrev pub Throughout : Shape → ℕ → List (Entry I) → List (Entry I) → Type 0
-  Throughout t k [] h = has-work t k h ≡ true
-  Throughout t k (e ∷ m) h = (has-work t k (e ∷ (m ++ h)) ≡ true) × Throughout t k m h
+  Throughout t k [] before = has-work t k before ≡ true
+  Throughout t k (e ∷ after) before = (has-work t k (e ∷ (after ++ before)) ≡ true) × Throughout t k after before

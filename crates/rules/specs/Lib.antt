@@ -4,4 +4,8 @@ pub mod State
 pub mod Rules
 pub mod Ready
 pub mod History
+pub mod Picks
+pub mod Alone
 pub mod Laws
+pub mod Figures
+pub mod Example

@@ -1,13 +1,22 @@
 -- The table of refusals, read as what lets each call pass. Assumes nothing.
-use mathlib.Core.Bool.{true}
+use mathlib.Core.Bool.{Bool, true, false}
 use mathlib.Core.Path.{_≡_}
 use Prim.Native.Nat.{ℕ, _+_, _≤_, _<_}
 use lib.ListN.{length}
+use Rattle.std.specs.Orderings.{Decides}
 use Rattle.std.specs.declared.option.Option.the-variants.{Some, None}
 use Rattle.rules.specs.Shape.{leaf}
 use Rattle.rules.specs.Kind.{Kind}
 use Rattle.rules.specs.State.{State, backlogged, picked, stored, open-turn}
-use Rattle.rules.specs.Rules.{Grant, Call, submit, dispatch, pulse, end-turn, give-up, head-cost, may-stop}
+use Rattle.rules.specs.Rules.{Grant, Call, submit, dispatch, pulse, end-turn, give-up, Answer, refused, accepted, granted, worked, closed, head-cost, may-stop, Step}
+
+-- any answer but a refusal
+abbrev pub is-accepted : Answer → Bool
+is-accepted (refused e) = false
+is-accepted accepted = true
+is-accepted (granted g l c) = true
+is-accepted (worked d) = true
+is-accepted (closed d) = true
 
 module _ {I : Type 0} (K : Kind I) where
   -- a submission
@@ -46,3 +55,7 @@ module _ {I : Type 0} (K : Kind I) where
   Ready s (pulse g) = Names s g
   Ready s (end-turn g) = Names s g × Ends s
   Ready s (give-up g) = Names s g × (length (s .lane (open-turn s .leaf)) ≡ s .queued (open-turn s .leaf))
+
+  -- a call is accepted exactly when it is ready
+  abbrev pub Accepts : Type 0
+  Accepts = (s : State I) (c : Call I) (a : Answer) (s′ : State I) → Step K s c a s′ → Decides (is-accepted a) (Ready s c)

@@ -11,7 +11,7 @@ use Rattle.base.specs.declared.refusal.Refusal.{Refusal}
 use Rattle.base.specs.declared.refusal.Refusal.the-variants.{UnknownClass, NotALeaf, BadCost, LaneMismatch, ShelfFull, TurnOpen, NothingBacklogged, LimitReached, WrongGrant, NoStoppingPoint}
 use Rattle.rules.specs.Shape.{under, leaf}
 use Rattle.rules.specs.Kind.{Kind}
-use Rattle.rules.specs.State.{Turn, Tags, State, put, is-open, backlogged-by, backlogged, next, picked, stored, mismatch, open-turn, to-do}
+use Rattle.rules.specs.State.{Tags, State, put, is-open, backlogged-by, backlogged, next, picked, stored, mismatch, open-turn, to-do}
 
 -- what a grant carries: its house number and its turn number
 pub record Grant : Type 0 where
@@ -53,7 +53,7 @@ module _ {I : Type 0} where
     virtual = s .tags .virtual;
   }
 
-  -- dispatch: each node on the way takes the start tag of the child it goes to for its virtual time
+  -- dispatch: each node on the path takes the start tag of the child it goes to for its virtual time
   abbrev pub advanced : State I → Tags
   advanced s = record {
     start = s .tags .start;

@@ -16,38 +16,38 @@ use Rattle.rules.specs.History.{Entry, entry, Run, charge}
 use Rattle.rules.proofs.Tests.{put-both}
 use Rattle.rules.proofs.Backlog.{busy-more}
 use Rattle.rules.proofs.Calls.{by-step}
-use Rattle.rules.proofs.Steady.{Closes, ended-closes, given-up-closes, busy-before, busy-after, steady, sound, weighed, open-busy, charge-on, charge-off}
+use Rattle.rules.proofs.Consistent.{Closes, ended-closes, given-up-closes, busy-before, busy-after, consistent, sound, weighed, open-busy, charge-on, charge-off}
 use Rattle.rules.proofs.Shares.{parts-is}
 use Rattle.rules.proofs.Tags
-use Rattle.rules.proofs.VirtualTime.{slack, clock}
+use Rattle.rules.proofs.VirtualTime.{slack, near-virtual}
 
 -- where class k stands: its start tag while backlogged, else where it would wake
-abbrev pub gauge : {I : Type 0} → State I → ℕ → ℕ
-gauge s k = cond (backlogged s k) (s .tags .start k) (max (s .tags .virtual (s .shape .parent k)) (s .tags .finish k))
+abbrev pub wake-or-start : {I : Type 0} → State I → ℕ → ℕ
+wake-or-start s k = cond (backlogged s k) (s .tags .start k) (max (s .tags .virtual (s .shape .parent k)) (s .tags .finish k))
 
 -- while backlogged
-pub gauge-busy : {I : Type 0} (s : State I) (k : ℕ) → backlogged s k ≡ true → gauge s k ≡ s .tags .start k
-gauge-busy s k b = cond-true _ _ _ b
+pub start-busy : {I : Type 0} (s : State I) (k : ℕ) → backlogged s k ≡ true → wake-or-start s k ≡ s .tags .start k
+start-busy s k b = cond-true _ _ _ b
 
 -- at rest
-gauge-rest : {I : Type 0} (s : State I) (k : ℕ) → backlogged s k ≡ false → gauge s k ≡ max (s .tags .virtual (s .shape .parent k)) (s .tags .finish k)
-gauge-rest s k b = cond-false _ _ _ b
+start-rest : {I : Type 0} (s : State I) (k : ℕ) → backlogged s k ≡ false → wake-or-start s k ≡ max (s .tags .virtual (s .shape .parent k)) (s .tags .finish k)
+start-rest s k b = cond-false _ _ _ b
 
 -- what a call does to class k, which is charged d, while its parent has work: a backlogged class moves on by its share, any class by no less
 pub record Shifts {I : Type 0} (s s′ : State I) (k d : ℕ) : Type 0 where
   pub exact : backlogged s k ≡ true → backlogged s′ k ≡ true → s′ .tags .start k ≡ s .tags .start k + d * (720720 / s .weight k)
-  pub onward : gauge s k + d * (720720 / s .weight k) ≤ gauge s′ k
+  pub onward : wake-or-start s k + d * (720720 / s .weight k) ≤ wake-or-start s′ k
 
 module _ {I : Type 0} (K : Kind I) (o : Opening) (ok : Valid o) {h : List (Entry I)} {s : State I} (r : Run K o h s) (k : ℕ) (z : 0 < k) (known : k < s .shape .count) where
   -- the tree is sound
   tree : Sound (s .shape)
-  tree = sound K o ok (steady K o r)
+  tree = sound K o ok (consistent K o r)
 
   -- a class stands at or after its parent's virtual time, by no more than its largest charge
-  pub gauge-near : (s .tags .virtual (s .shape .parent k) ≤ gauge s k) × (gauge s k ≤ s .tags .virtual (s .shape .parent k) + slack h s k)
-  gauge-near = let q = clock K o ok r in elim (cases-bool (backlogged s k)) [
-    | inl b ↦ (omega (arith, gauge-busy s k b, q .floor k z b), omega (arith, gauge-busy s k b, q .roof k z b))
-    | inr b ↦ (omega (arith, gauge-rest s k b), omega (arith, gauge-rest s k b, q .cap k z known))
+  pub start-near : (s .tags .virtual (s .shape .parent k) ≤ wake-or-start s k) × (wake-or-start s k ≤ s .tags .virtual (s .shape .parent k) + slack h s k)
+  start-near = let q = near-virtual K o ok r in elim (cases-bool (backlogged s k)) [
+    | inl b ↦ (omega (arith, start-busy s k b, q .start-low k z b), omega (arith, start-busy s k b, q .start-high k z b))
+    | inr b ↦ (omega (arith, start-rest s k b), omega (arith, start-rest s k b, q .finish-high k z known))
   ]
 
   module _ (opened : s .phase ≡ Some (open-turn s)) (c : Call I) (lane : ℕ → List I) (queued : ℕ → ℕ) (x : Closes (open-turn s .leaf) (s .queued) queued) (busy : backlogged-by (s .shape) queued (s .shape .parent k) ≡ true) where
@@ -57,26 +57,26 @@ module _ {I : Type 0} (K : Kind I) (o : Opening) (ok : Valid o) {h : List (Entry
         let l = open-turn s .leaf in
         let d = open-turn s .done in
         let s′ = settle s lane queued in
-        let tag = clock K o ok r .way (open-turn s) opened k z in
-        let w = weighed K o ok (steady K o r) k known in
+        let tag = near-virtual K o ok r .path (open-turn s) opened k z in
+        let w = weighed K o ok (consistent K o r) k known in
         let part = parts-is (s .weight k) (w .0) (w .1) d in
         elim (cases-bool (under (s .shape) k l)) [
-          | inl on ↦ rw (charge-on K o (steady K o r) opened c k d on) (record {
+          | inl on ↦ rw (charge-on K o (consistent K o r) opened c k d on) (record {
             exact = λ _ b. omega (arith, part, Tags.start-on s l d queued k z on b (tag on));
             onward =
-                let g = gauge-busy s k (open-busy K o ok r (open-turn s) opened k on) in
+                let g = start-busy s k (open-busy K o ok r (open-turn s) opened k on) in
                 elim (cases-bool (backlogged-by (s .shape) queued k)) [
-                  | inl b ↦ omega (arith, g, part, gauge-busy s′ k b, Tags.start-on s l d queued k z on b (tag on))
-                  | inr b ↦ omega (arith, g, part, gauge-rest s′ k b, Tags.finish-on s l d queued k z on busy)
+                  | inl b ↦ omega (arith, g, part, start-busy s′ k b, Tags.start-on s l d queued k z on b (tag on))
+                  | inr b ↦ omega (arith, g, part, start-rest s′ k b, Tags.finish-on s l d queued k z on busy)
                 ];
           })
-          | inr away ↦ rw (charge-off K o (steady K o r) opened c k d away) (record {
+          | inr away ↦ rw (charge-off K o (consistent K o r) opened c k d away) (record {
             exact = λ _ b. omega (arith, Tags.start-off s l d queued k away);
             onward = elim (cases-bool (backlogged s k)) [
-              | inl b ↦ omega (arith, gauge-busy s k b, gauge-busy s′ k (busy-after tree l (s .queued) queued x k away b), Tags.start-off s l d queued k away)
+              | inl b ↦ omega (arith, start-busy s k b, start-busy s′ k (busy-after tree l (s .queued) queued x k away b), Tags.start-off s l d queued k away)
               | inr b ↦ elim (cases-bool (backlogged-by (s .shape) queued k)) [
                 | inl now ↦ absurd (both-ways _ b (busy-before tree l (s .queued) queued x k now))
-                | inr still ↦ omega (arith, gauge-rest s k b, gauge-rest s′ k still, Tags.virtual-stays s l d queued (s .shape .parent k) busy, Tags.finish-off s l d queued k away busy)
+                | inr still ↦ omega (arith, start-rest s k b, start-rest s′ k still, Tags.virtual-stays s l d queued (s .shape .parent k) busy, Tags.finish-off s l d queued k away busy)
               ]
             ];
           })
@@ -89,10 +89,10 @@ module _ {I : Type 0} (K : Kind I) (o : Opening) (ok : Valid o) {h : List (Entry
       record {
         exact = λ b _. omega (arith, Tags.awake-keeps s c k b);
         onward = elim (cases-bool (backlogged s k)) [
-          | inl b ↦ omega (arith, gauge-busy s k b, gauge-busy s′ k (more b), Tags.awake-keeps s c k b)
+          | inl b ↦ omega (arith, start-busy s k b, start-busy s′ k (more b), Tags.awake-keeps s c k b)
           | inr b ↦ elim (cases-bool (backlogged s′ k)) [
-            | inl now ↦ omega (arith, gauge-rest s k b, gauge-busy s′ k now, Tags.wakes s tree c (s .queued c + 1) k z b now)
-            | inr still ↦ omega (arith, gauge-rest s k b, gauge-rest s′ k still)
+            | inl now ↦ omega (arith, start-rest s k b, start-busy s′ k now, Tags.wakes s tree c (s .queued c + 1) k z b now)
+            | inr still ↦ omega (arith, start-rest s k b, start-rest s′ k still)
           ]
         ];
       }
@@ -101,12 +101,12 @@ module _ {I : Type 0} (K : Kind I) (o : Opening) (ok : Valid o) {h : List (Entry
       more = busy-more tree (put (s .queued) c (s .queued c + 1)) (s .queued) k (λ i _ _. put-both (s .queued) c (s .queued c + 1) i (λ j. s .queued i ≤ j) (λ e. rw e (omega arith)) (λ _. omega arith))
   shifts-after dispatch d p busy =
       let s′ = effect K s dispatch d in
-      let grows = Tags.virtual-grows s tree (steady K o r .leaves) (p .busy) (clock K o ok r .floor) (s .shape .parent k) in
+      let grows = Tags.virtual-grows s tree (consistent K o r .leaves) (p .busy) (near-virtual K o ok r .start-low) (s .shape .parent k) in
       record {
         exact = λ _ _. omega arith;
         onward = elim (cases-bool (backlogged s k)) [
-          | inl b ↦ omega (arith, gauge-busy s k b, gauge-busy s′ k b)
-          | inr b ↦ omega (arith, gauge-rest s k b, gauge-rest s′ k b, grows)
+          | inl b ↦ omega (arith, start-busy s k b, start-busy s′ k b)
+          | inr b ↦ omega (arith, start-rest s k b, start-rest s′ k b, grows)
         ];
       }
   shifts-after (pulse x) d p busy = record { exact = λ _ _. omega arith; onward = omega arith }

@@ -67,7 +67,7 @@ module _ {I : Type 0} (K : Kind I) where
 
   module _ (o : Opening) where
     -- tree and shelf stay as they were opened; only leaves of the tree hold items, as many as are counted; phase and turn number are what the history tells
-    pub record Steady (h : List (Entry I)) (s : State I) : Type 0 where
+    pub record Consistent (h : List (Entry I)) (s : State I) : Type 0 where
       pub frame : (s .house ≡ o .house) × (s .shape ≡ o .shape) × (s .weight ≡ o .weight) × (s .places ≡ o .places)
       pub leaves : (l : ℕ) → 0 < s .queued l → leaf (s .shape) l ≡ true
       pub known : (l : ℕ) → 0 < s .queued l → l < s .shape .count
@@ -76,8 +76,8 @@ module _ {I : Type 0} (K : Kind I) where
       pub turns : s .turns ≡ turns-given h
 
     -- each accepted call keeps this
-    steady-after : (h : List (Entry I)) (s : State I) (c : Call I) (d : ℕ) → Ready K s c → Steady h s → Steady (entry c (answer K s c d) ∷ h) (effect K s c d)
-    steady-after h s (submit c x) d r k = record {
+    consistent-after : (h : List (Entry I)) (s : State I) (c : Call I) (d : ℕ) → Ready K s c → Consistent h s → Consistent (entry c (answer K s c d) ∷ h) (effect K s c d)
+    consistent-after h s (submit c x) d r k = record {
       frame = k .frame;
       leaves = λ l. put-both (s .queued) c (s .queued c + 1) l (λ n. 0 < n → leaf (s .shape) l ≡ true) (λ e _. rw e (r .ends)) (λ _. k .leaves l);
       known = λ l. put-both (s .queued) c (s .queued c + 1) l (λ n. 0 < n → l < s .shape .count) (λ e _. omega (arith, r .known)) (λ _. k .known l);
@@ -85,9 +85,9 @@ module _ {I : Type 0} (K : Kind I) where
       turn = k .turn;
       turns = omega (arith, k .turns);
     }
-    steady-after h s dispatch d r k = record { frame = k .frame; leaves = k .leaves; known = k .known; full = k .full; turn = refl; turns = omega (arith, k .turns) }
-    steady-after h s (pulse x) d r k = record { frame = k .frame; leaves = k .leaves; known = k .known; full = k .full; turn = ap (done-more d) (k .turn ∙ ap (told s) (r .opened)); turns = omega (arith, k .turns) }
-    steady-after h s (end-turn x) d (n, r) k =
+    consistent-after h s dispatch d r k = record { frame = k .frame; leaves = k .leaves; known = k .known; full = k .full; turn = refl; turns = omega (arith, k .turns) }
+    consistent-after h s (pulse x) d r k = record { frame = k .frame; leaves = k .leaves; known = k .known; full = k .full; turn = ap (done-more d) (k .turn ∙ ap (told s) (r .opened)); turns = omega (arith, k .turns) }
+    consistent-after h s (end-turn x) d (n, r) k =
         let u = open-turn s in
         let fewer = ended-closes (s .queued) u .le in
         record {
@@ -98,16 +98,16 @@ module _ {I : Type 0} (K : Kind I) where
           turn = refl;
           turns = omega (arith, k .turns);
         }
-    steady-after h s (give-up x) d r k = record { frame = k .frame; leaves = k .leaves; known = k .known; full = k .full; turn = refl; turns = omega (arith, k .turns) }
+    consistent-after h s (give-up x) d r k = record { frame = k .frame; leaves = k .leaves; known = k .known; full = k .full; turn = refl; turns = omega (arith, k .turns) }
 
     -- every history keeps it
-    pub steady : {h : List (Entry I)} {s : State I} → Run K o h s → Steady h s
-    steady = by-calls K o Steady
+    pub consistent : {h : List (Entry I)} {s : State I} → Run K o h s → Consistent h s
+    consistent = by-calls K o Consistent
         (record { frame = (refl, refl, refl, refl); leaves = λ l z. absurd (omega arith); known = λ l z. omega arith; full = λ l. refl; turn = refl; turns = refl })
         (λ h s c n _ k. record { frame = k .frame; leaves = k .leaves; known = k .known; full = k .full; turn = k .turn; turns = omega (arith, k .turns) })
-        (λ h s c d _ r _ k. steady-after h s c d r k)
+        (λ h s c d _ r _ k. consistent-after h s c d r k)
 
-    module _ {h : List (Entry I)} {s : State I} (k : Steady h s) (opened : s .phase ≡ Some (open-turn s)) where
+    module _ {h : List (Entry I)} {s : State I} (k : Consistent h s) (opened : s .phase ≡ Some (open-turn s)) where
       -- the history tells the open turn
       pub told-turn : turn-after h ≡ Some (record { grant = record { house = s .house; turn = s .turns }; leaf = open-turn s .leaf; done = open-turn s .done })
       told-turn = k .turn ∙ ap (told s) opened
@@ -122,11 +122,11 @@ module _ {I : Type 0} (K : Kind I) where
 
     module _ (ok : Valid o) where
       -- the tree is sound
-      pub sound : {h : List (Entry I)} {s : State I} → Steady h s → Sound (s .shape)
+      pub sound : {h : List (Entry I)} {s : State I} → Consistent h s → Sound (s .shape)
       sound k = subst Sound (sym (k .frame .1)) (ok .sound)
 
       -- its weights are 1 to 16
-      pub weighed : {h : List (Entry I)} {s : State I} → Steady h s → (k : ℕ) → k < s .shape .count → (1 ≤ s .weight k) × (s .weight k ≤ 16)
+      pub weighed : {h : List (Entry I)} {s : State I} → Consistent h s → (k : ℕ) → k < s .shape .count → (1 ≤ s .weight k) × (s .weight k ≤ 16)
       weighed k = subst₂ (λ t w. (i : ℕ) → i < t .count → (1 ≤ w i) × (w i ≤ 16)) (sym (k .frame .1)) (sym (k .frame .2)) (ok .weights)
 
       -- the open turn serves a leaf whose lane holds an item
@@ -136,7 +136,7 @@ module _ {I : Type 0} (K : Kind I) where
       -- each accepted call keeps this
       serving-after : (h : List (Entry I)) (s : State I) (c : Call I) (d : ℕ) → Run K o h s → Ready K s c → Serving h s → Serving (entry c (answer K s c d) ∷ h) (effect K s c d)
       serving-after h s (submit c x) d r q k u e = let z = k u e in put-both (s .queued) c (s .queued c + 1) (u .leaf) (λ n. 0 < n) (λ _. omega arith) (λ _. z)
-      serving-after h s dispatch d r q k u e = subst (λ v. 0 < s .queued (v .leaf)) (some-same e) (picks s (sound (steady r)) (steady r .leaves) (q .busy) .1)
+      serving-after h s dispatch d r q k u e = subst (λ v. 0 < s .queued (v .leaf)) (some-same e) (picks s (sound (consistent r)) (consistent r .leaves) (q .busy) .1)
       serving-after h s (pulse x) d r q k u e = subst (λ v. 0 < s .queued (v .leaf)) (some-same e) (k (open-turn s) (q .opened))
       serving-after h s (end-turn x) d r q k u e = absurd (not-some e)
       serving-after h s (give-up x) d r q k u e = absurd (not-some e)
@@ -147,8 +147,8 @@ module _ {I : Type 0} (K : Kind I) where
 
       -- so that leaf is a class of the tree
       pub open-known : {h : List (Entry I)} {s : State I} → Run K o h s → (u : Turn) → s .phase ≡ Some u → u .leaf < s .shape .count
-      open-known r u e = steady r .known (u .leaf) (serving r u e)
+      open-known r u e = consistent r .known (u .leaf) (serving r u e)
 
       -- every class above that leaf is backlogged
       pub open-busy : {h : List (Entry I)} {s : State I} → Run K o h s → (u : Turn) → s .phase ≡ Some u → (k : ℕ) → under (s .shape) k (u .leaf) ≡ true → backlogged s k ≡ true
-      open-busy {s = s} r u e k on = busy-from (sound (steady r)) (s .queued) k (record { lane = u .leaf; known = open-known r u e; below = under-below (sound (steady r)) on; some = serving r u e })
+      open-busy {s = s} r u e k on = busy-from (sound (consistent r)) (s .queued) k (record { lane = u .leaf; known = open-known r u e; below = under-below (sound (consistent r)) on; some = serving r u e })
