@@ -1,7 +1,7 @@
 -- One class more.
 use mathlib.Core.Path.{_≡_, refl, sym, ap, subst, _∙_}
 use mathlib.Core.Logic.{inl, inr}
-use mathlib.Core.Bool.{true, false, cond}
+use mathlib.Core.Bool.{true, false}
 use mathlib.Core.List.{List}
 use Prim.Native.Nat.{ℕ, suc, _+_, _<_, _≤_}
 use native.Mathlib.Omega.{arith}
@@ -21,7 +21,7 @@ use Rattle.classes.specs.Additions.{Grown}
 use Rattle.classes.specs.Names.{text-of}
 use Rattle.classes.specs.Rows.{blank, row, shape, name-at, named-below, same}
 use Rattle.classes.specs.Shapes.{depth, child-below}
-use Rattle.classes.specs.Tables.{shape-of, name-of, named}
+use Rattle.classes.specs.Tables.{shape-of, named}
 use Rattle.classes.specs.declared.class.Class.{Class}
 use Rattle.classes.specs.declared.name.Name.{Name}
 use Rattle.classes.specs.declared.table.ClassTable.{ClassTable}

@@ -8,7 +8,7 @@ use lib.Dec.{eqb, ltb}
 use Rattle.std.specs.declared.option.Option.{Option}
 use Rattle.std.specs.declared.option.Option.the-variants.{Some, None}
 use Rattle.std.specs.Options.{Cases, isSome}
-use Rattle.std.proofs.shelf.Tests.{cases-eq, cases-lt, cases-bool, eq-eqb, ne-eqb, cond-true, cond-false}
+use Rattle.std.proofs.shelf.Tests.{cases-eq, cases-bool, eq-eqb, ne-eqb, cond-true, cond-false}
 use Rattle.rules.specs.Shape.{Shape, climb, child, leaf, any}
 use Rattle.rules.proofs.Tests.{no-test}
 use Rattle.rules.proofs.Tree.{child-decides}

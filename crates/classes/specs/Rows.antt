@@ -15,16 +15,18 @@ use Rattle.classes.specs.Names.{text-of}
 use Rattle.classes.specs.declared.class.Class.{Class}
 use Rattle.classes.specs.declared.name.Name.{Name}
 
--- the root when it stands alone
+-- the name and the weight of the root
 abbrev pub root-name : Name
 root-name = record { bytes = 114 ∷ 111 ∷ 111 ∷ 116 ∷ 0 ∷ 0 ∷ 0 ∷ 0 ∷ []; len = 4; size = refl; short = lit≤ tt; proper = refl }
 
 abbrev pub root-weight : Weight
 root-weight = record { value = 1; least = lit≤ tt; most = lit≤ tt }
 
+-- the root when it stands alone; a number that no class has reads as it
 abbrev pub blank : Class
 blank = record { name = root-name; parent = 0; weight = root-weight; depth = 0; «first_child» = None; «next_sibling» = None }
 
+-- the same in words
 pub record Alone (c : Class) : Type 0 where
   pub name : text-of (c .name) ≡ codes "root"
   pub parent : c .parent ≡ 0

@@ -2,10 +2,10 @@
 use crate::name::Name;
 use base::weight::Weight;
 
-pub mod root;
+mod root;
 
-/// A class as the draft adds it. A node's children are listed by falling number: its first child is the one
-/// added last, and each child knows the next. A class without a first child is a leaf.
+/// A class. A node's children are listed by falling number: its first child is the one that was added last, and the next sibling
+/// of a class is the child of the same node that was added before it. A class without a first child is a leaf.
 #[derive(Clone, Copy)]
 pub struct Class {
     pub name: Name,

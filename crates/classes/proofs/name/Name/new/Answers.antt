@@ -1,8 +1,6 @@
 use mathlib.Core.Path.{sym, ap, _∙_}
-use native.Mathlib.Omega.{arith}
 use borrow.Author.Needs.{needs}
 use Rattle.std.proofs.shelf.Lists.{places}
-use Rattle.std.proofs.shelf.Parts.{overwrites}
 use Rattle.classes.specs.Words.{is-name}
 use Rattle.classes.proofs.Plain.{copied, name-short}
 use Rattle.classes.proofs.name.Name.new.Needs as need

@@ -1,5 +1,3 @@
-use mathlib.Core.Path.{_≡_, subst}
-use Rattle.std.specs.Orderings.{Decides}
 use Rattle.std.proofs.shelf.Equals.{matches-decides}
 use Rattle.classes.proofs.name.text.NamePartialEq.eq.Needs as need
 
