@@ -1,0 +1,4 @@
+pub mod Draws
+pub mod Plays
+pub mod Readings
+pub mod Stages

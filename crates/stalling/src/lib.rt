@@ -1,0 +1,5 @@
+//! How long a stalling link holds one item.
+pub mod draw;
+pub mod line;
+pub mod play;
+pub mod stage;
