@@ -1,1 +1,2 @@
+pub mod Lexed
 pub mod Played

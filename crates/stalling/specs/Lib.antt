@@ -1,4 +1,5 @@
 pub mod Draws
+pub mod Lines
 pub mod Plays
 pub mod Readings
 pub mod Stages

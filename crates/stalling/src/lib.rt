@@ -1,5 +1,6 @@
 //! How long a stalling link holds one item.
 pub mod draw;
+pub mod lex;
 pub mod line;
 pub mod play;
 pub mod stage;
