@@ -1,2 +1,3 @@
 pub mod Lexed
 pub mod Played
+pub mod Reading
