@@ -1,12 +1,6 @@
 //! Playing one item on a server.
-ghost use mathlib.Core.Path.{_≡_};
-ghost use mathlib.Core.Logic.{_⊎_};
-ghost use Prim.Native.Nat.{_-_, _≤_};
-ghost use lib.ListN.{length};
-ghost use Rattle.std.specs.Of.Vec.{vec-items};
 ghost use Rattle.std.specs.Vec.{made};
-ghost use Rattle.stalling.specs.Draws.{«done-by», «idle-of»};
-ghost use Rattle.stalling.specs.Plays.{Plays};
+ghost use Rattle.stalling.specs.Plays.{Played};
 use crate::draw::Draw;
 use links::server::Server;
 use std::alloc::AllocError;
@@ -18,18 +12,14 @@ pub const MOST: u32 = 100_000;
 /// The draws that an item took.
 #[derive(Drop)]
 pub struct Run {
-    draws: Vec<Draw>,
-    idle: u32,
-    left: u32,
+    pub draws: Vec<Draw>,
+    pub idle: u32,
+    pub left: u32,
 }
 
 /// Draws until the item is done, or has taken the most draws that an item may take.
 pub fn play<S: Server>(heap: Global, server: &mut S, cost: u32) -> Result<Run, AllocError>
-    ensures { λ r. ⌜ made r (λ p.
-        Plays (S·Server .draws) (now (server .entry)) 0 cost (vec-items (p .draws)) (now (server .exit)) ×
-        (p .idle ≡ «idle-of» (vec-items (p .draws))) ×
-        (p .left ≡ cost - «done-by» (vec-items (p .draws))) ×
-        ((p .left ≡ 0) ⊎ (length (vec-items (p .draws)) ≡ 100000))) ⌝ }
+    ensures { λ r. ⌜ made r (λ p. Played (S·Server .draws) (now (server .entry)) cost p (now (server .exit))) ⌝ }
 {
     let mut draws = Vec::new(heap);
     let mut idle = 0;

@@ -1,0 +1,45 @@
+-- What the program prints.
+use mathlib.Core.Bool.{cond}
+use mathlib.Core.List.{List, [], _∷_, _++_}
+use Prim.Native.Nat.{ℕ, _-_}
+use lib.Chars.{codes}
+use lib.Dec.{eqb}
+use lib.ListN.{length}
+use Rattle.std.specs.Written.{decimal}
+use Rattle.std.specs.shelf.Lists.{joined}
+use Rattle.links.specs.declared.outage.Outage.{Outage}
+use Rattle.stalling.specs.declared.draw.Draw.{Draw}
+use Rattle.stalling.specs.declared.fault.Fault.{Fault}
+use Rattle.stalling.specs.declared.line.Line.{Line}
+use Rattle.stalling.specs.Draws.{done-by, draw-text, idle-of}
+use Rattle.stalling.specs.Faults.{fault-text}
+use Rattle.stalling.specs.Inputs.{Begins, Told}
+use Rattle.stalling.specs.Plays.{Stops}
+use Rattle.stalling.specs.Readings.{complete}
+use Rattle.stalling.specs.Timetables.{Timetable}
+
+-- some draws, one a line
+abbrev pub told-draws : List Draw → List ℕ
+told-draws xs = joined (λ x. draw-text x ++ 10 ∷ []) xs
+
+-- `3 draws, 1 idle`
+abbrev pub done-text : ℕ → ℕ → List ℕ
+done-text draws idle = decimal draws ++ (codes " draws, " ++ (decimal idle ++ codes " idle\n"))
+
+-- `stopped after 100000 draws, 99998 idle, 7 units left`
+abbrev pub stopped-text : ℕ → ℕ → ℕ → List ℕ
+stopped-text draws idle left =
+    codes "stopped after " ++ (decimal draws ++ (codes " draws, " ++ (decimal idle ++ (codes " idle, " ++ (decimal left ++ codes " units left\n")))))
+
+-- the last line: how many draws there were, how many of them were idle, and what is left, if anything is
+abbrev pub last-line : ℕ → ℕ → ℕ → List ℕ
+last-line draws idle left = cond (eqb left 0) (done-text draws idle) (stopped-text draws idle left)
+
+-- the draws of an item of that cost, and what they come to
+abbrev pub listing : List Draw → ℕ → List ℕ
+listing xs cost = told-draws xs ++ last-line (length xs) (idle-of xs) (cost - done-by xs)
+
+-- what is printed for an input: the draws of its item on its link, or its first fault
+pub data Prints (bs : List ℕ) : List ℕ → Type 0 where
+  played : (ls : List Line) (rate : ℕ) (os : List Outage) (cost : ℕ) (xs : List Draw) → Begins bs ls (complete rate os cost) [] → Timetable rate os 0 cost xs → Stops cost xs → Prints bs (listing xs cost)
+  faulty : (f : Fault) → Told bs f → Prints bs (fault-text f ++ 10 ∷ [])
