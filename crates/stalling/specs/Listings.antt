@@ -22,14 +22,14 @@ use Rattle.stalling.specs.Timetables.{Timetable}
 abbrev pub told-draws : List Draw → List ℕ
 told-draws xs = joined (λ x. draw-text x ++ 10 ∷ []) xs
 
--- `3 draws, 1 idle`
+-- `draws 3, idle 1`
 abbrev pub done-text : ℕ → ℕ → List ℕ
-done-text draws idle = decimal draws ++ (codes " draws, " ++ (decimal idle ++ codes " idle\n"))
+done-text draws idle = codes "draws " ++ (decimal draws ++ (codes ", idle " ++ (decimal idle ++ codes "\n")))
 
--- `stopped after 100000 draws, 99998 idle, 7 units left`
+-- `stopped: draws 100000, idle 99999, left 2`
 abbrev pub stopped-text : ℕ → ℕ → ℕ → List ℕ
 stopped-text draws idle left =
-    codes "stopped after " ++ (decimal draws ++ (codes " draws, " ++ (decimal idle ++ (codes " idle, " ++ (decimal left ++ codes " units left\n")))))
+    codes "stopped: draws " ++ (decimal draws ++ (codes ", idle " ++ (decimal idle ++ (codes ", left " ++ (decimal left ++ codes "\n")))))
 
 -- the last line: how many draws there were, how many of them were idle, and what is left, if anything is
 abbrev pub last-line : ℕ → ℕ → ℕ → List ℕ

@@ -26,9 +26,9 @@ fn write_last(out: &mut String, draws: usize, idle: u32, left: u32) -> fmt::Resu
     ensures { λ r. ⌜ made r (λ _. string-bytes (now (out .exit)) ≡ string-bytes (now (out .entry)) ++ «last-line» draws idle left) ⌝ }
 {
     if left == 0 {
-        writeln!(out, "{draws} draws, {idle} idle")?;
+        writeln!(out, "draws {draws}, idle {idle}")?;
     } else {
-        writeln!(out, "stopped after {draws} draws, {idle} idle, {left} units left")?;
+        writeln!(out, "stopped: draws {draws}, idle {idle}, left {left}")?;
     }
     Ok(())
 }
