@@ -1,6 +1,4 @@
-pub mod Lexed
-pub mod Played
-pub mod Printed
-pub mod Reading
-pub mod Timed
-pub mod Told
+mod Played
+mod Printed
+mod Timed
+mod Told

@@ -9,9 +9,9 @@ use Rattle.links.specs.Listed.{listed}
 use Rattle.links.specs.declared.fixed.FixedLink.{FixedLink}
 use Rattle.links.specs.declared.interrupted.Interrupted.{Interrupted}
 use Rattle.stalling.specs.declared.play.Run.{Run}
-use Rattle.stalling.specs.declared.read.Plan.{Plan}
+use Rattle.plans.specs.declared.read.Plan.{Plan}
 use Rattle.stalling.specs.Draws.{done-by, idle-of}
-use Rattle.stalling.specs.Inputs.{Planned}
+use Rattle.plans.specs.Inputs.{Planned}
 use Rattle.stalling.specs.Listings.{Prints, played, last-line, told-draws}
 use Rattle.stalling.specs.Plays.{Played}
 use Rattle.stalling.proofs.Timed.{link-draws, timed}

@@ -40,27 +40,27 @@ stepped s k left d u at low some room drew =
     let wanted : eqb left 0 ≡ false = ne-eqb left 0 (λ e. omega arith) in
     let counted : u .count ≡ k + 1 = drew .1 ∙ ap (λ b. cond b (s .count) (min (s .count + 1) 4294967295)) wanted ∙ omega arith in
     let did : cond (covered os k) idle (fixed-draws (s .below) left d (u .below)) =
-        subst (λ n. cond (covered os n) idle (fixed-draws (s .below) left d (u .below))) at
-        (subst (λ b. cond (b || covered os (s .count)) idle (fixed-draws (s .below) left d (u .below))) wanted (drew .2)) in
+    subst (λ n. cond (covered os n) idle (fixed-draws (s .below) left d (u .below))) at
+    (subst (λ b. cond (b || covered os (s .count)) idle (fixed-draws (s .below) left d (u .below))) wanted (drew .2)) in
     elim (cases-bool (covered os k)) [
       | inl out ↦
-        let none : idle = subst (λ b. cond b idle (fixed-draws (s .below) left d (u .below))) out did in
-        record {
-          did = none .0 ∙ sym (ap (λ b. cond b 0 (min left (s .below .rate))) out);
-          count = counted;
-          outages = drew .0;
-          rate = ap (λ l. l .rate) (none .1);
-          work = omega (arith, ap (λ (l : FixedLink). l .done .0) (none .1), none .0)
-        }
+          let none : idle = subst (λ b. cond b idle (fixed-draws (s .below) left d (u .below))) out did in
+          record {
+            did = none .0 ∙ sym (ap (λ b. cond b 0 (min left (s .below .rate))) out);
+            count = counted;
+            outages = drew .0;
+            rate = ap (λ l. l .rate) (none .1);
+            work = omega (arith, ap (λ (l : FixedLink). l .done .0) (none .1), none .0);
+          }
       | inr on ↦
-        let done : fixed-draws (s .below) left d (u .below) = subst (λ b. cond b idle (fixed-draws (s .below) left d (u .below))) on did in
-        record {
-          did = done .0 ∙ omega arith ∙ sym (ap (λ b. cond b 0 (min left (s .below .rate))) on);
-          count = counted;
-          outages = drew .0;
-          rate = done .1;
-          work = done .2
-        }
+          let done : fixed-draws (s .below) left d (u .below) = subst (λ b. cond b idle (fixed-draws (s .below) left d (u .below))) on did in
+          record {
+            did = done .0 ∙ omega arith ∙ sym (ap (λ b. cond b 0 (min left (s .below .rate))) on);
+            count = counted;
+            outages = drew .0;
+            rate = done .1;
+            work = done .2;
+          }
     ]
 
 pub timed : (xs : List Draw) (s t : Interrupted FixedLink) (k left : ℕ) → s .count ≡ k → k + length xs ≤ 4294967295 → s .below .done .0 + left ≤ 1000000000000000 → Plays link-draws s k left xs t → Timetable (s .below .rate) (listed (s .outages)) k left xs
@@ -72,9 +72,8 @@ timed (x ∷ xs) s t k left at low room p =
     let after = stepped s k left (x .done) u at (omega arith) (p .0) room (p .3 .1) in
     let rest = timed xs u t (k + 1) (left - x .done) (after .count) (omega arith) (omega (arith, after .work)) (p .3 .2) in
     let same = subst (λ r. Timetable r (listed (u .outages)) (k + 1) (left - x .done) xs) (after .rate) rest in
-    let listed-same = subst (λ o. Timetable rate (listed o) (k + 1) (left - x .done) xs) (after .outages) same in
-    (
+    let listed-same = subst (λ o. Timetable rate (listed o) (k + 1) (left - x .done) xs) (after .outages) same in (
       p .0,
       (λ i. record { number = p .1 i; wanted = p .2 i; done = after .did i }),
-      subst (λ n. Timetable rate os (k + 1) (left - n) xs) (after .did) listed-same
+      subst (λ n. Timetable rate os (k + 1) (left - n) xs) (after .did) listed-same,
     )

@@ -1,9 +1,4 @@
 pub mod Draws
-pub mod Faults
-pub mod Inputs
-pub mod Lines
 pub mod Listings
 pub mod Plays
-pub mod Readings
-pub mod Stages
 pub mod Timetables

@@ -9,13 +9,13 @@ use Rattle.std.specs.Written.{decimal}
 use Rattle.std.specs.shelf.Lists.{joined}
 use Rattle.links.specs.declared.outage.Outage.{Outage}
 use Rattle.stalling.specs.declared.draw.Draw.{Draw}
-use Rattle.stalling.specs.declared.fault.Fault.{Fault}
-use Rattle.stalling.specs.declared.line.Line.{Line}
+use Rattle.plans.specs.declared.fault.Fault.{Fault}
+use Rattle.plans.specs.declared.line.Line.{Line}
 use Rattle.stalling.specs.Draws.{done-by, draw-text, idle-of}
-use Rattle.stalling.specs.Faults.{fault-text}
-use Rattle.stalling.specs.Inputs.{Begins, Told}
+use Rattle.plans.specs.Faults.{fault-text}
+use Rattle.plans.specs.Inputs.{Begins, Told}
 use Rattle.stalling.specs.Plays.{Stops}
-use Rattle.stalling.specs.Readings.{complete}
+use Rattle.plans.specs.Readings.{complete}
 use Rattle.stalling.specs.Timetables.{Timetable}
 
 -- some draws, one a line

@@ -2,11 +2,11 @@
 ghost use Rattle.std.specs.Of.String.{string-bytes};
 ghost use Rattle.std.specs.Vec.{made};
 ghost use Rattle.stalling.specs.Listings.{Prints};
-use crate::fault::FaultDisplay;
 use crate::play::play;
-use crate::read::read;
 use links::fixed::FixedServer;
 use links::interrupted::InterruptedServer;
+use plans::fault::FaultDisplay;
+use plans::read::read;
 use std::alloc::Global;
 use std::io;
 

@@ -4,7 +4,7 @@ use mathlib.Core.List.{[], _∷_, _++_}
 use Prim.Native.Nat.{_≤_}
 use native.Mathlib.Omega.{arith}
 use borrow.Author.Needs.{needs}
-use Rattle.stalling.specs.Faults.{fault-text}
+use Rattle.plans.specs.Faults.{fault-text}
 use Rattle.stalling.specs.Listings.{Prints, faulty, last-line, told-draws}
 use Rattle.std.specs.Of.Vec.{vec-items, vec-len}
 use Rattle.stalling.proofs.Printed.{prints-run}

@@ -5,8 +5,8 @@ use Prim.Native.Nat.{ℕ}
 use Rattle.std.specs.declared.option.Option.{Option}
 use Rattle.std.specs.Options.{Cases}
 use Rattle.text.specs.Words.{Small, numeral}
-use Rattle.stalling.specs.declared.line.Line.{Line}
-use Rattle.stalling.specs.declared.line.Line.the-variants.{Link, Outage, Item}
+use Rattle.plans.specs.declared.line.Line.{Line}
+use Rattle.plans.specs.declared.line.Line.the-variants.{Link, Outage, Item}
 
 -- the letter that a line begins with: l, o or i
 abbrev pub initial : Line → ℕ

@@ -2,8 +2,8 @@
 ghost use mathlib.Core.Path.{_≡_};
 ghost use Rattle.std.specs.Results.{Cases};
 ghost use Rattle.std.specs.declared.result.Result.the-variants.{Ok, Err};
-ghost use Rattle.stalling.specs.Stages.{reading, standing, New, Untouched};
-ghost use Rattle.stalling.specs.Readings.{start, taken};
+ghost use Rattle.plans.specs.Stages.{reading, standing, New, Untouched};
+ghost use Rattle.plans.specs.Readings.{start, taken};
 use crate::line::Line;
 use base::refusal::Refusal;
 use links::fixed::FixedLink;

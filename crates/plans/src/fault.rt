@@ -1,7 +1,7 @@
 //! What is wrong with an input.
 ghost use mathlib.Core.Path.{_≡_};
 ghost use Rattle.std.specs.declared.option.Option.the-variants.{Some};
-ghost use Rattle.stalling.specs.Faults.{«fault-text», «wrong-text»};
+ghost use Rattle.plans.specs.Faults.{«fault-text», «wrong-text»};
 use base::refusal::Refusal;
 use base::refusal::RefusalDebug;
 use base::refusal::RefusalEq;

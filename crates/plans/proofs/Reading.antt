@@ -11,16 +11,16 @@ use Rattle.std.specs.declared.result.Result.{Result}
 use Rattle.std.specs.declared.result.Result.the-variants.{Ok, Err}
 use Rattle.std.proofs.shelf.Elements.{all-push}
 use Rattle.std.proofs.shelf.Lists.{joined-more, length-push, nil-from-length}
-use Rattle.stalling.specs.declared.fault.Wrong.{Wrong}
-use Rattle.stalling.specs.declared.fault.Wrong.the-variants.{Refused}
-use Rattle.stalling.specs.declared.line.Line.{Line}
-use Rattle.stalling.specs.declared.read.Plan.{Plan}
-use Rattle.stalling.specs.declared.stage.Stage.{Stage}
-use Rattle.stalling.specs.declared.stage.Stage.the-variants.{Complete}
-use Rattle.stalling.specs.Inputs.{Begins, Planned, Told, misformed, refused, unfinished, at-line, ended, missing, next, onward}
-use Rattle.stalling.specs.Lines.{Misformed, Proper, written}
-use Rattle.stalling.specs.Readings.{Reading, taken}
-use Rattle.stalling.specs.Stages.{reading, Untouched}
+use Rattle.plans.specs.declared.fault.Wrong.{Wrong}
+use Rattle.plans.specs.declared.fault.Wrong.the-variants.{Refused}
+use Rattle.plans.specs.declared.line.Line.{Line}
+use Rattle.plans.specs.declared.read.Plan.{Plan}
+use Rattle.plans.specs.declared.stage.Stage.{Stage}
+use Rattle.plans.specs.declared.stage.Stage.the-variants.{Complete}
+use Rattle.plans.specs.Inputs.{Begins, Planned, Told, misformed, refused, unfinished, at-line, ended, missing, next, onward}
+use Rattle.plans.specs.Lines.{Misformed, Proper, written}
+use Rattle.plans.specs.Readings.{Reading, taken}
+use Rattle.plans.specs.Stages.{reading, Untouched}
 
 -- some lines are read, and the stage is what they set up
 pub record Sofar (bs : List ℕ) (stage : Stage) (number : ℕ) (rest : List ℕ) : Type 0 where

@@ -11,9 +11,9 @@ use Rattle.std.proofs.shelf.Numerals.{digit-at}
 use Rattle.text.specs.Words.{Free, Small, numeral}
 use Rattle.text.proofs.Ends.{cut-once}
 use Rattle.text.proofs.Numbers.{own}
-use Rattle.stalling.specs.declared.line.Line.{Line}
-use Rattle.stalling.specs.declared.line.Line.the-variants.{Link, Outage, Item}
-use Rattle.stalling.specs.Lines.{fields, initial, Misformed, Proper, written}
+use Rattle.plans.specs.declared.line.Line.{Line}
+use Rattle.plans.specs.declared.line.Line.the-variants.{Link, Outage, Item}
+use Rattle.plans.specs.Lines.{fields, initial, Misformed, Proper, written}
 
 pub single : (w : List ℕ) (k : ℕ) → length w ≡ 1 → k ≡ getD w 0 0 → w ≡ k ∷ []
 single [] k h e = absurd (omega arith)

@@ -1,5 +1,5 @@
-use Rattle.stalling.proofs.Lexed.{no-end, no-line}
-use Rattle.stalling.proofs.lex.first_line.Needs as need
+use Rattle.plans.proofs.Lexed.{no-end, no-line}
+use Rattle.plans.proofs.lex.first_line.Needs as need
 
 pub returns-in-Break-bytes : need.returns-in-Break-bytes
 returns-in-Break-bytes c = rw (c .from-residual .ensures) (no-end _ (c .in-Break-bytes .ensures tt))

@@ -1,6 +1,6 @@
 use mathlib.Core.Path.{sym}
-use Rattle.stalling.proofs.Lexed.{letter-cut}
-use Rattle.stalling.proofs.lex.line.Needs as need
+use Rattle.plans.proofs.Lexed.{letter-cut}
+use Rattle.plans.proofs.lex.line.Needs as need
 
 pub returns-in-Break-letter : need.returns-in-Break-letter
 returns-in-Break-letter c =

@@ -1,5 +1,5 @@
 //! Reading an input.
-ghost use Rattle.stalling.specs.Inputs.{Judged};
+ghost use Rattle.plans.specs.Inputs.{Judged};
 use crate::fault::Fault;
 use crate::fault::Wrong;
 use crate::lex::first_line;

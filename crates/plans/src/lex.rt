@@ -3,7 +3,7 @@ ghost use mathlib.Core.Path.{_≡_};
 ghost use mathlib.Core.List.{[], _∷_, _++_};
 ghost use Prim.Native.Nat.{ℕ};
 ghost use Rattle.std.specs.Options.{Cases};
-ghost use Rattle.stalling.specs.Lines.{Formed, Misformed, Proper, Reads, written};
+ghost use Rattle.plans.specs.Lines.{Formed, Misformed, Proper, Reads, written};
 use crate::line::Line;
 use text::word::cut;
 use text::word::number;

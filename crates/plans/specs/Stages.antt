@@ -3,9 +3,9 @@ use mathlib.Core.Path.{_≡_}
 use Rattle.links.specs.Listed.{listed}
 use Rattle.links.specs.declared.fixed.FixedLink.{FixedLink}
 use Rattle.links.specs.declared.interrupted.Interrupted.{Interrupted}
-use Rattle.stalling.specs.Readings.{Reading, start, linked, complete}
-use Rattle.stalling.specs.declared.stage.Stage.{Stage}
-use Rattle.stalling.specs.declared.stage.Stage.the-variants.{Start, Linked, Complete}
+use Rattle.plans.specs.Readings.{Reading, start, linked, complete}
+use Rattle.plans.specs.declared.stage.Stage.{Stage}
+use Rattle.plans.specs.declared.stage.Stage.the-variants.{Start, Linked, Complete}
 
 abbrev pub standing : Interrupted FixedLink → Reading
 standing l = linked (l .below .rate) (listed (l .outages))

@@ -1,6 +1,6 @@
 -- Each arm's text is what the fault's part is told by.
 use mathlib.Core.Path.{refl}
-use Rattle.stalling.proofs.fault.Wrong.message.Needs as need
+use Rattle.plans.proofs.fault.Wrong.message.Needs as need
 
 pub returns-in-NoRate : need.returns-in-NoRate
 returns-in-NoRate c = rw (c .in-NoRate .is) refl

@@ -1,6 +1,6 @@
 use lib.ListN.{length}
-use Rattle.stalling.proofs.Reading.{Sofar}
-use Rattle.stalling.proofs.read.read.Given as given
+use Rattle.plans.proofs.Reading.{Sofar}
+use Rattle.plans.proofs.read.read.Given as given
 
 abbrev pub Inv-loop-rest : given.InvT-loop-rest
 Inv-loop-rest l = Sofar (l .input) (l .stage) (l .number) (l .rest)

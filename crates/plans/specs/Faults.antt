@@ -4,9 +4,9 @@ use Prim.Native.Nat.{ℕ}
 use lib.Chars.{codes}
 use Rattle.base.specs.Numbers.{message}
 use Rattle.std.specs.Written.{decimal}
-use Rattle.stalling.specs.declared.fault.Fault.{Fault}
-use Rattle.stalling.specs.declared.fault.Wrong.{Wrong}
-use Rattle.stalling.specs.declared.fault.Wrong.the-variants.{Refused, NoRate, NoItem}
+use Rattle.plans.specs.declared.fault.Fault.{Fault}
+use Rattle.plans.specs.declared.fault.Wrong.{Wrong}
+use Rattle.plans.specs.declared.fault.Wrong.the-variants.{Refused, NoRate, NoItem}
 
 abbrev pub wrong-text : Wrong → List ℕ
 wrong-text (Refused e) = message e

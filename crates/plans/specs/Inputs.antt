@@ -12,14 +12,14 @@ use Rattle.std.specs.declared.result.Result.the-variants.{Ok, Err}
 use Rattle.std.specs.Results.{Cases}
 use Rattle.std.specs.shelf.Lists.{All, joined}
 use Rattle.links.specs.Listed.{listed}
-use Rattle.stalling.specs.declared.fault.Fault.{Fault}
-use Rattle.stalling.specs.declared.fault.Wrong.{Wrong}
-use Rattle.stalling.specs.declared.fault.Wrong.the-variants.{Refused, NoRate, NoItem}
-use Rattle.stalling.specs.declared.line.Line.{Line}
-use Rattle.stalling.specs.declared.read.Plan.{Plan}
-use Rattle.stalling.specs.Lines.{Misformed, Proper, written}
-use Rattle.stalling.specs.Readings.{Reading, start, linked, complete, taken}
-use Rattle.stalling.specs.Stages.{New}
+use Rattle.plans.specs.declared.fault.Fault.{Fault}
+use Rattle.plans.specs.declared.fault.Wrong.{Wrong}
+use Rattle.plans.specs.declared.fault.Wrong.the-variants.{Refused, NoRate, NoItem}
+use Rattle.plans.specs.declared.line.Line.{Line}
+use Rattle.plans.specs.declared.read.Plan.{Plan}
+use Rattle.plans.specs.Lines.{Misformed, Proper, written}
+use Rattle.plans.specs.Readings.{Reading, start, linked, complete, taken}
+use Rattle.plans.specs.Stages.{New}
 
 -- the bytes of some lines, each with its line end
 abbrev pub ended : List Line → List ℕ

@@ -1,8 +1,8 @@
 -- Behind the letter o: no space, no number before it, no number behind it.
 use mathlib.Core.Path.{sym, subst, _∙_}
 use Rattle.text.specs.Words.{Free, numeral}
-use Rattle.stalling.proofs.Lexed.{both-cut, not-free, only-outage}
-use Rattle.stalling.proofs.lex.form.Needs as need
+use Rattle.plans.proofs.Lexed.{both-cut, not-free, only-outage}
+use Rattle.plans.proofs.lex.form.Needs as need
 
 pub returns-in-Break-offset : need.returns-in-Break-offset
 returns-in-Break-offset c =

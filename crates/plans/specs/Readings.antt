@@ -9,8 +9,8 @@ use Rattle.links.specs.Outages.{fits, outage}
 use Rattle.links.specs.declared.outage.Outage as outages
 use Rattle.std.specs.declared.result.Result.{Result}
 use Rattle.std.specs.declared.result.Result.the-variants.{Ok, Err}
-use Rattle.stalling.specs.declared.line.Line.{Line}
-use Rattle.stalling.specs.declared.line.Line.the-variants.{Link, Outage, Item}
+use Rattle.plans.specs.declared.line.Line.{Line}
+use Rattle.plans.specs.declared.line.Line.the-variants.{Link, Outage, Item}
 
 -- nothing yet; a link of a rate with outages; such a link and an item of a cost
 pub data Reading : Type 0 where

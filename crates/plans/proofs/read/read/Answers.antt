@@ -4,11 +4,11 @@ use mathlib.Core.List.{_∷_, _++_}
 use native.Mathlib.Omega.{arith}
 use lib.ListN.{length, length-append}
 use borrow.Author.Tests.{true-eqb, false-eqb}
-use Rattle.stalling.specs.Inputs.{missing}
-use Rattle.stalling.specs.Lines.{written}
-use Rattle.stalling.specs.Stages.{reading}
-use Rattle.stalling.proofs.Reading.{one-more, planned, told-misformed, told-refused, told-unfinished}
-use Rattle.stalling.proofs.read.read.Needs as need
+use Rattle.plans.specs.Inputs.{missing}
+use Rattle.plans.specs.Lines.{written}
+use Rattle.plans.specs.Stages.{reading}
+use Rattle.plans.proofs.Reading.{one-more, planned, told-misformed, told-refused, told-unfinished}
+use Rattle.plans.proofs.read.read.Needs as need
 
 pub returns-in-rest : need.returns-in-rest
 returns-in-rest c = told-misformed _ _ _ _ (c .loop-rest .inv) (omega (arith, false-eqb _ 0 (c .loop-rest-test .ensures tt))) (c .in-rest .ensures tt)
