@@ -36,6 +36,18 @@ impl Wrong {
     }
 }
 
+impl Fault {
+    /// The fault of a line that is refused.
+    pub(crate) fn refused(line: usize, refusal: Refusal) -> Fault
+        ensures { λ r. ⌜ r ≡ record { line = line; wrong = Wrong.Refused refusal } ⌝ }
+    {
+        Fault {
+            line,
+            wrong: Wrong::Refused(refusal),
+        }
+    }
+}
+
 pub impl fmt::Display for Fault as FaultDisplay {
     ghost shown = { λ x. Some («fault-text» x) };
 

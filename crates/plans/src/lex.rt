@@ -41,7 +41,7 @@ fn form(letter: char, fields: &[u8]) -> Option<Line>
 }
 
 /// The line that the bytes write, if they are of one of the three forms.
-pub fn line(bytes: &[u8]) -> Option<Line>
+fn line(bytes: &[u8]) -> Option<Line>
     ensures { λ r. ⌜ Reads (now (bytes .entry)) r ⌝ }
 {
     let (word, fields) = cut(bytes, b' ')?;
@@ -49,7 +49,7 @@ pub fn line(bytes: &[u8]) -> Option<Line>
 }
 
 /// The first line of a text, and what follows its line end.
-pub fn first_line(text: &[u8]) -> Option<(Line, &[u8])>
+pub(crate) fn first_line(text: &[u8]) -> Option<(Line, &[u8])>
     ensures { λ r. ⌜ Cases r (Misformed (now (text .entry))) (λ p. Proper (p .0) × (now (text .entry) ≡ written (p .0) ++ 10 ∷ now (p .1))) ⌝ }
 {
     let (bytes, more) = cut(text, b'\n')?;

@@ -24,20 +24,12 @@ pub fn read(input: &[u8]) -> Result<Plan, Fault>
     let mut number = 1;
     while !rest.is_empty() {
         let Some((line, more)) = first_line(rest) else {
-            return Err(Fault {
-                line: number,
-                wrong: Wrong::Refused(Refusal::BadLine),
-            });
+            return Err(Fault::refused(number, Refusal::BadLine));
         };
-        match stage.take(line) {
-            Ok(next) => stage = next,
-            Err(refusal) => {
-                return Err(Fault {
-                    line: number,
-                    wrong: Wrong::Refused(refusal),
-                });
-            }
-        }
+        stage = match stage.take(line) {
+            Ok(next) => next,
+            Err(refusal) => return Err(Fault::refused(number, refusal)),
+        };
         rest = more;
         number += 1;
     }

@@ -11,7 +11,7 @@ use links::interrupted::Interrupted;
 
 /// What the lines so far have set up: nothing, a link, or a link and an item.
 #[derive(Drop)]
-pub enum Stage {
+pub(crate) enum Stage {
     Start,
     Linked(Interrupted<FixedLink>),
     Complete(Interrupted<FixedLink>, u32),
@@ -19,7 +19,7 @@ pub enum Stage {
 
 impl Stage {
     /// What stands after one line more, or why the line is refused.
-    pub fn take(self, line: Line) -> Result<Stage, Refusal>
+    pub(crate) fn take(self, line: Line) -> Result<Stage, Refusal>
         requires { ⌜ Untouched self ⌝ }
         ensures { λ r. ⌜ Cases r (λ s. Untouched s × (taken (reading self) line ≡ Ok (reading s))) (λ e. taken (reading self) line ≡ Err e) ⌝ }
     {
