@@ -26,7 +26,8 @@ impl Units {
     pub const fn get(self) -> u64
         ensures { λ r. ⌜ r ≡ self .0 ⌝ }
     {
-        self.0
+        let Units(units) = self;
+        units
     }
 }
 
@@ -54,7 +55,8 @@ impl Parts {
     pub const fn get(self) -> u64
         ensures { λ r. ⌜ r ≡ self .0 ⌝ }
     {
-        self.0
+        let Parts(parts) = self;
+        parts
     }
 
     /// The later of two tags.

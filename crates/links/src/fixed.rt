@@ -51,3 +51,42 @@ pub impl Server for FixedLink as FixedServer {
         self.done
     }
 }
+
+#[cfg(test)]
+mod tests {
+    use super::*;
+    use crate::server::at_end;
+    use base::refusal::RefusalDebug;
+    use base::refusal::RefusalPartialEq;
+    use std::test::*;
+
+    #[test]
+    fn rates() -> Result<(), Fail> {
+        for rate in [0, 65_536, u32::MAX] {
+            check_eq(FixedLink::new(rate).err(), Some(Refusal::BadRate))?;
+        }
+        for rate in [1, 65_535] {
+            let mut link = FixedLink::new(rate)?;
+            check_eq(link.draw(0), 0)?;
+            check_eq(link.draw(u32::MAX), rate)?;
+            check_eq(link.draw(1), 1)?;
+            check_eq(link.done().get(), u64::from(rate) + 1)?;
+        }
+        Ok(())
+    }
+
+    // a link that is 3 units before its end
+    #[test]
+    fn end() -> Result<(), Fail> {
+        let mut link = FixedLink {
+            rate: 8,
+            done: Units::new(999_999_999_999_997),
+        };
+        check(!at_end(&link))?;
+        for (wanted, done) in [(2, 2), (8, 1), (1, 0), (u32::MAX, 0)] {
+            check_eq(link.draw(wanted), done)?;
+        }
+        check_eq(link.done().get(), 1_000_000_000_000_000)?;
+        check(at_end(&link))
+    }
+}

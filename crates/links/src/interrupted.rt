@@ -64,3 +64,97 @@ pub impl<S: Server> Server for Interrupted<S> as InterruptedServer {
         self.below.done()
     }
 }
+
+#[cfg(test)]
+mod tests {
+    use super::*;
+    use crate::fixed::FixedLink;
+    use crate::fixed::FixedServer;
+    use base::refusal::RefusalDebug;
+    use base::refusal::RefusalPartialEq;
+    use std::test::*;
+
+    #[test]
+    fn outages_in_order() -> Result<(), Fail> {
+        let mut link = Interrupted::new(FixedLink::new(8)?);
+        for (offset, length, refused) in [
+            (0, 0, true), // empty
+            (2, 3, false), // the first, with a gap before it
+            (4, 9, true), // it overlaps the first
+            (1, 1, true), // it stands before the first
+            (5, 1, false), // it touches the first
+            (6, u32::MAX, true), // it ends above 32 bits
+            (4_294_967_294, 2, true), // it ends one count too late
+            (4_294_967_294, 1, false),
+            (4_294_967_295, 0, true),
+            (4_294_967_295, 1, true),
+        ] {
+            let refusal = if refused {
+                Some(Refusal::BadOutage)
+            } else {
+                None
+            };
+            check_eq(link.add_outage(offset, length).err(), refusal)?;
+        }
+        Ok(())
+    }
+
+    #[test]
+    fn seventeenth() -> Result<(), Fail> {
+        let mut link = Interrupted::new(FixedLink::new(8)?);
+        for offset in 0..16 {
+            link.add_outage(offset, 1)?;
+        }
+        check_eq(link.add_outage(16, 1).err(), Some(Refusal::BadOutage))?;
+        for _ in 0..16 {
+            check_eq(link.draw(1), 0)?;
+        }
+        check_eq(link.draw(9), 8)
+    }
+
+    #[test]
+    fn draws() -> Result<(), Fail> {
+        let mut link = Interrupted::new(FixedLink::new(8)?);
+        link.add_outage(1, 2)?;
+        link.add_outage(3, 1)?;
+        for (wanted, done) in [
+            (9, 8),
+            (0, 0),
+            (9, 0),
+            (0, 0),
+            (9, 0),
+            (1, 0),
+            (0, 0),
+            (3, 3),
+            (9, 8),
+        ] {
+            check_eq(link.draw(wanted), done)?;
+        }
+        check_eq(link.done().get(), 19)
+    }
+
+    // the count of a link that was drawn on almost as often as it counts
+    #[test]
+    fn last_count() -> Result<(), Fail> {
+        let mut link = Interrupted::new(FixedLink::new(8)?);
+        link.add_outage(4_294_967_294, 1)?;
+        link.count = 4_294_967_293;
+        for done in [8, 0, 8, 8] {
+            check_eq(link.draw(9), done)?;
+        }
+        check_eq(link.count, 4_294_967_295)
+    }
+
+    // what the upper link keeps to itself the lower one does not count
+    #[test]
+    fn one_over_the_other() -> Result<(), Fail> {
+        let mut lower = Interrupted::new(FixedLink::new(8)?);
+        lower.add_outage(0, 1)?;
+        let mut upper = Interrupted::new(lower);
+        upper.add_outage(0, 1)?;
+        for done in [0, 0, 8] {
+            check_eq(upper.draw(9), done)?;
+        }
+        check_eq(upper.done().get(), 8)
+    }
+}
