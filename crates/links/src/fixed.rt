@@ -1,14 +1,14 @@
 //! A link of a fixed rate.
 ghost use mathlib.Core.Path.{_≡_};
 ghost use mathlib.Core.Logic.{_⊎_};
-ghost use Prim.Native.Nat.{_+_, _<_, _≤_};
-ghost use Rattle.links.specs.Fixed.{does};
+ghost use Prim.Native.Nat.{_<_, _≤_};
 ghost use Rattle.std.specs.Results.{Cases};
-use crate::server::END;
-use crate::server::Server;
 use base::refusal::Refusal;
 use base::units::Units;
-use base::units::UnitsAdd;
+
+pub mod serve;
+
+pub use self::serve::FixedServer;
 
 /// A server that does at most `rate` units in a draw.
 #[derive(Drop)]
@@ -35,26 +35,10 @@ impl FixedLink {
     }
 }
 
-pub impl Server for FixedLink as FixedServer {
-    ghost work = { λ s. s .done .0 };
-
-    ghost draws = { λ s n d t. (d ≡ does (s .rate) (s .done .0) n) × (t .rate ≡ s .rate) × (t .done .0 ≡ s .done .0 + d) };
-
-    fn draw(&mut self, wanted: u32) -> u32 {
-        let left = END - self.done.get();
-        let done = u64::from(wanted.min(self.rate)).min(left);
-        self.done = self.done + Units::new(done);
-        done as u32
-    }
-
-    fn done(&self) -> Units {
-        self.done
-    }
-}
-
 #[cfg(test)]
 mod tests {
     use super::*;
+    use crate::server::Server;
     use crate::server::at_end;
     use base::refusal::RefusalDebug;
     use base::refusal::RefusalPartialEq;

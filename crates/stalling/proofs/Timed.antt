@@ -8,7 +8,7 @@ use native.Mathlib.Omega.{arith}
 use lib.Dec.{eqb}
 use lib.ListN.{length}
 use Rattle.std.proofs.shelf.Tests.{cases-bool, ne-eqb}
-use Rattle.links.specs.Fixed.{does}
+use Rattle.links.specs.Fixed.{Fixes}
 use Rattle.links.specs.Interrupts.{Interrupts, held, next-count}
 use Rattle.links.specs.Listed.{listed}
 use Rattle.links.specs.Outages.{covered}
@@ -19,12 +19,8 @@ use Rattle.stalling.specs.declared.draw.Draw.{Draw}
 use Rattle.stalling.specs.Plays.{Plays}
 use Rattle.stalling.specs.Timetables.{drawn, Timetable}
 
--- the relation of the fixed link, and of the interrupted link over it
-abbrev pub fixed-draws : FixedLink → ℕ → ℕ → FixedLink → Type 0
-fixed-draws s n d t = (d ≡ does (s .rate) (s .done .0) n) × (t .rate ≡ s .rate) × (t .done .0 ≡ s .done .0 + d)
-
 abbrev pub link-draws : Interrupted FixedLink → ℕ → ℕ → Interrupted FixedLink → Type 0
-link-draws = Interrupts fixed-draws
+link-draws = Interrupts Fixes
 
 record Stepped (s : Interrupted FixedLink) (k left d : ℕ) (u : Interrupted FixedLink) : Type 0 where
   did : d ≡ drawn (s .below .rate) (listed (s .outages)) k left
@@ -39,12 +35,12 @@ stepped s k left d u at low some room drew =
     let idle : Type 0 = (d ≡ 0) × (u .below ≡ s .below) in
     let wanted : eqb left 0 ≡ false = ne-eqb left 0 (λ e. omega arith) in
     let counted : u .count ≡ k + 1 = drew .1 ∙ ap (λ b. cond b (s .count) (min (s .count + 1) 4294967295)) wanted ∙ omega arith in
-    let did : cond (covered os k) idle (fixed-draws (s .below) left d (u .below)) =
-    subst (λ n. cond (covered os n) idle (fixed-draws (s .below) left d (u .below))) at
-    (subst (λ b. cond (b || covered os (s .count)) idle (fixed-draws (s .below) left d (u .below))) wanted (drew .2)) in
+    let did : cond (covered os k) idle (Fixes (s .below) left d (u .below)) =
+    subst (λ n. cond (covered os n) idle (Fixes (s .below) left d (u .below))) at
+    (subst (λ b. cond (b || covered os (s .count)) idle (Fixes (s .below) left d (u .below))) wanted (drew .2)) in
     elim (cases-bool (covered os k)) [
       | inl out ↦
-          let none : idle = subst (λ b. cond b idle (fixed-draws (s .below) left d (u .below))) out did in
+          let none : idle = subst (λ b. cond b idle (Fixes (s .below) left d (u .below))) out did in
           record {
             did = none .0 ∙ sym (ap (λ b. cond b 0 (min left (s .below .rate))) out);
             count = counted;
@@ -53,7 +49,7 @@ stepped s k left d u at low some room drew =
             work = omega (arith, ap (λ (l : FixedLink). l .done .0) (none .1), none .0);
           }
       | inr on ↦
-          let done : fixed-draws (s .below) left d (u .below) = subst (λ b. cond b idle (fixed-draws (s .below) left d (u .below))) on did in
+          let done : Fixes (s .below) left d (u .below) = subst (λ b. cond b idle (Fixes (s .below) left d (u .below))) on did in
           record {
             did = done .0 ∙ omega arith ∙ sym (ap (λ b. cond b 0 (min left (s .below .rate))) on);
             count = counted;
