@@ -1,7 +1,7 @@
 //! Weights, and what work comes to at a weight.
 ghost use mathlib.Core.Path.{_≡_};
 ghost use mathlib.Core.Logic.{_⊎_};
-ghost use Prim.Native.Nat.{ℕ, _≤_, _<_};
+ghost use Prim.Native.Nat.{_≤_, _<_};
 ghost use Rattle.base.specs.Charge.{«charge-of»};
 ghost use Rattle.std.specs.Results.{Cases};
 use crate::refusal::Refusal;

@@ -1,15 +1,15 @@
 -- What the links' own relations come to, draw by draw.
 use mathlib.Core.Path.{_≡_, sym, ap, subst, _∙_}
-use mathlib.Core.Bool.{Bool, true, false, cond, _||_}
+use mathlib.Core.Bool.{false, cond, _||_}
 use mathlib.Core.List.{List, [], _∷_}
-use mathlib.Core.Logic.{_⊎_, inl, inr}
+use mathlib.Core.Logic.{inl, inr}
 use Prim.Native.Nat.{ℕ, _+_, _-_, _<_, _≤_, min}
 use native.Mathlib.Omega.{arith}
 use lib.Dec.{eqb}
 use lib.ListN.{length}
 use Rattle.std.proofs.shelf.Tests.{cases-bool, ne-eqb}
 use Rattle.links.specs.Fixed.{Fixes}
-use Rattle.links.specs.Interrupts.{Interrupts, held, next-count}
+use Rattle.links.specs.Interrupts.{Interrupts}
 use Rattle.links.specs.Listed.{listed}
 use Rattle.links.specs.Outages.{covered}
 use Rattle.links.specs.declared.fixed.FixedLink.{FixedLink}

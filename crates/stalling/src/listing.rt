@@ -8,6 +8,8 @@ ghost use Rattle.stalling.specs.Listings.{«last-line», «told-draws»};
 use crate::draw::Draw;
 use crate::draw::DrawDisplay;
 use crate::play::Run;
+use std::alloc::AllocError;
+use std::alloc::Global;
 use std::fmt;
 use std::fmt::Write;
 
@@ -34,8 +36,18 @@ fn write_last(out: &mut String, draws: usize, idle: u32, left: u32) -> fmt::Resu
 }
 
 impl Run {
-    /// Appends the draws, and what they come to.
-    pub fn write_to(&self, out: &mut String) -> fmt::Result
+    /// The draws, one a line, and what they come to.
+    pub fn listing(&self, heap: Global) -> Result<String, AllocError>
+        ensures { λ r. ⌜ made r (λ out. string-bytes out ≡ «told-draws» (vec-items (now (self .entry) .draws)) ++ «last-line» (vec-len (now (self .entry) .draws)) (now (self .entry) .idle) (now (self .entry) .left)) ⌝ }
+    {
+        let mut out = String::new(heap);
+        match self.write_to(&mut out) {
+            Ok(()) => Ok(out),
+            Err(_) => Err(AllocError),
+        }
+    }
+
+    fn write_to(&self, out: &mut String) -> fmt::Result
         ensures { λ r. ⌜ made r (λ _. string-bytes (now (out .exit)) ≡ (string-bytes (now (out .entry)) ++ «told-draws» (vec-items (now (self .entry) .draws))) ++ «last-line» (vec-len (now (self .entry) .draws)) (now (self .entry) .idle) (now (self .entry) .left)) ⌝ }
     {
         write_draws(out, self.draws.as_slice())?;

@@ -7,20 +7,15 @@ use links::fixed::FixedServer;
 use links::interrupted::InterruptedServer;
 use plans::fault::FaultDisplay;
 use plans::read::read;
+use std::alloc::AllocError;
 use std::alloc::Global;
-use std::io;
 
 /// Plays the item of the input on its link, and tells each draw; or tells the first fault.
-pub fn stall(heap: Global, input: &[u8]) -> io::Result<String>
+pub fn stall(heap: Global, input: &[u8]) -> Result<String, AllocError>
     ensures { λ r. ⌜ made r (λ out. Prints (now (input .entry)) (string-bytes out)) ⌝ }
 {
     match read(input) {
-        Ok(mut plan) => {
-            let run = play(heap, &mut plan.link, plan.cost)?;
-            let mut out = String::new(heap);
-            run.write_to(&mut out)?;
-            Ok(out)
-        }
-        Err(fault) => Ok(format!(heap, "{fault}\n")?),
+        Ok(mut plan) => play(heap, &mut plan.link, plan.cost)?.listing(heap),
+        Err(fault) => format!(heap, "{fault}\n"),
     }
 }

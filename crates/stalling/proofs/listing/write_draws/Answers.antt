@@ -1,7 +1,6 @@
 -- A line more.
 use native.Mathlib.Omega.{arith}
 use Rattle.std.specs.Of.String.{string-bytes}
-use Rattle.std.proofs.shelf.Lists.{getD-default}
 use Rattle.stalling.proofs.Told.{told-all, told-more}
 use Rattle.stalling.proofs.listing.write_draws.Needs as need
 

@@ -17,6 +17,4 @@ loop-number-again g c =
     let items = c .push .ensures .items ∙ cond-true _ _ _ (ap isOk (c .in-Continue-push .was tt)) in
     let idled : c .if-done-eq0 .idle ≡ c .loop-number .idle + cond (eqb (c .draw-done .result) 0) 1 0 =
     elim (c .if-done-eq0 .came) [ then-done-eq0 w ↦ grind (arith, tells, w .idle-is) | else-done-eq0 w ↦ grind (arith, tells, w .idle-is) ] in
-    let few : c .if-done-eq0 .idle ≤ c .loop-number .number + 1 =
-    elim (c .if-done-eq0 .came) [ then-done-eq0 w ↦ omega (arith, w .idle-is, c .loop-number .inv .few) | else-done-eq0 w ↦ omega (arith, w .idle-is, c .loop-number .inv .few) ] in
-    sofar-more _ _ _ _ _ _ _ _ (c .loop-number .inv) (omega arith) _ _ within (c .draw-done .ensures) _ idled few _ items
+    sofar-more _ _ _ _ _ _ _ _ (c .loop-number .inv) (omega arith) _ _ within (c .draw-done .ensures) _ idled _ items

@@ -1,21 +1,16 @@
 -- The listing tells the item's timetable; the fault line tells the first fault.
-use mathlib.Core.Path.{_≡_, sym, ap, subst, _∙_}
-use mathlib.Core.List.{[], _∷_, _++_}
+use mathlib.Core.Path.{sym, subst}
 use Prim.Native.Nat.{_≤_}
-use native.Mathlib.Omega.{arith}
 use borrow.Author.Needs.{needs}
-use Rattle.plans.specs.Faults.{fault-text}
-use Rattle.stalling.specs.Listings.{Prints, faulty, last-line, told-draws}
-use Rattle.std.specs.Of.Vec.{vec-items, vec-len}
+use Rattle.std.proofs.shelf.Results.{made-weaker}
+use Rattle.stalling.specs.Listings.{Prints, faulty}
 use Rattle.stalling.proofs.Printed.{prints-run}
 use Rattle.stalling.proofs.stall.stall.Needs as need
 
-pub returns-in-Continue-write-to : need.returns-in-Continue-write-to
-returns-in-Continue-write-to c =
-    let run = c .in-Continue-run .run′ in
+pub returns-in-Continue-play : need.returns-in-Continue-play
+returns-in-Continue-play c =
     let small : c .in-Ok .plan .cost ≤ 4294967295 = search needs in
-    let wrote = c .in-Continue-write-to .ensures tt ∙ ap (λ bs. (bs ++ told-draws (vec-items (run .draws))) ++ last-line (vec-len (run .draws)) (run .idle) (run .left)) (c .new-out .ensures .bytes) in
-    prints-run _ _ _ _ _ (c .in-Ok .ensures tt) small (c .in-Continue-run .ensures tt) wrote
+    made-weaker _ _ _ (λ out wrote. prints-run _ _ _ _ _ (c .in-Ok .ensures tt) small (c .in-Continue-play .ensures tt) wrote) (c .listing .ensures)
 
-pub returns-in-Continue-format : need.returns-in-Continue-format
-returns-in-Continue-format c = subst (Prints _) (sym (c .in-Continue-format .ensures tt .made)) (faulty (c .in-Err .fault) (c .in-Err .ensures tt))
+pub returns-in-Err : need.returns-in-Err
+returns-in-Err c = made-weaker _ _ _ (λ out wrote. subst (Prints _) (sym wrote) (faulty (c .in-Err .fault) (c .in-Err .ensures tt))) (c .format .ensures .made)

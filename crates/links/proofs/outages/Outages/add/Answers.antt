@@ -1,5 +1,5 @@
 -- The list grows by the outage, and stays in order.
-use mathlib.Core.Path.{_≡_, _∙_, sym}
+use mathlib.Core.Path.{_∙_, sym}
 use native.Mathlib.Omega.{arith}
 use Rattle.std.proofs.shelf.Lists.{length-set}
 use Rattle.links.proofs.Order.{stored}

@@ -1,5 +1,5 @@
 -- The items of the loop are the outages of the table.
-use mathlib.Core.Path.{_≡_, sym, ap}
+use mathlib.Core.Path.{sym, ap}
 use native.Mathlib.Omega.{arith}
 use lib.ListN.{length}
 use Rattle.links.specs.Listed.{listed}
