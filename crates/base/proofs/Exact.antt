@@ -1,8 +1,8 @@
 -- Charges are exact: each weight from 1 to 16 divides 720,720. Assumes nothing.
 use mathlib.Core.Path.{_≡_, _∙_, ap, sym, refl}
 use mathlib.Core.Bool.{Bool, true, _&&_}
-use mathlib.Core.Logic.{_⊎_, inl, inr}
-use Prim.Native.Nat.{ℕ, zero, suc, _+_, _*_, _/_, _<_, _≤_}
+use mathlib.Core.Logic.{inl, inr}
+use Prim.Native.Nat.{ℕ, zero, suc, _*_, _/_, _≤_}
 use native.Mathlib.Nat.{mul-assoc, add-zero}
 use native.Mathlib.Omega.{arith}
 use lib.Dec.{eqb}

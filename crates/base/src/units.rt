@@ -1,9 +1,6 @@
 //! Work is counted in units, tags in parts.
 ghost use mathlib.Core.Path.{_≡_};
-ghost use mathlib.Core.Bool.{cond};
-ghost use Prim.Native.Nat.{ℕ, _+_, _<_, _^_, max};
-ghost use lib.Dec.{ltb};
-use std::fmt;
+ghost use Prim.Native.Nat.{_+_, _<_, _^_, max};
 use std::ops::Add;
 
 /// Work. A unit is a millisecond of the processor or a sector of the drive.
@@ -26,7 +23,8 @@ impl Units {
     pub const fn get(self) -> u64
         ensures { λ r. ⌜ r ≡ self .0 ⌝ }
     {
-        self.0
+        let Units(units) = self;
+        units
     }
 }
 
@@ -54,7 +52,8 @@ impl Parts {
     pub const fn get(self) -> u64
         ensures { λ r. ⌜ r ≡ self .0 ⌝ }
     {
-        self.0
+        let Parts(parts) = self;
+        parts
     }
 
     /// The later of two tags.

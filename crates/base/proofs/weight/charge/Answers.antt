@@ -1,12 +1,11 @@
 use mathlib.Core.Path.{_≡_, _∙_, ap, refl}
 use Prim.Native.Nat.{_*_, _/_, _<_, _≤_}
 use native.Mathlib.Omega.{arith}
-use Rattle.std.proofs.shelf.Tests.{cond-below, cond-above, cases-lt}
+use Rattle.std.proofs.shelf.Tests.{cond-below, cond-above}
 use Rattle.base.proofs.Exact.{exact}
 use Rattle.base.specs.Charge.{charged}
 use Rattle.base.proofs.weight.charge.Needs as need
-use Rattle.base.specs.declared.units.Parts.{Parts}
-use Rattle.std.specs.declared.option.Option.the-variants.{Some, None}
+use Rattle.std.specs.declared.option.Option.the-variants.{Some}
 
 pub returns-in-Some : need.returns-in-Some
 returns-in-Some c =

@@ -1,0 +1,5 @@
+pub mod Numbers
+pub mod Cuts
+pub mod Splits
+pub mod Forms
+pub mod Ends

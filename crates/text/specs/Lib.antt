@@ -1,0 +1,5 @@
+pub mod Words
+pub mod Lines
+pub mod Cursor
+pub mod Kinds
+pub mod Texts
