@@ -22,7 +22,7 @@ pub mod tree;
 
 pub use item::{Block, Item, Quantum};
 pub use link::{FixedLink, Interrupted, Outages, Server};
-pub use play::{play, play_with};
+pub use play::{play, play_into};
 pub use ready::{HeapSet, Ready, TreeSet};
 pub use refusal::Refusal;
 pub use shelf::Shelf;

@@ -3,26 +3,39 @@ use crate::link::{FixedLink, Interrupted};
 use crate::ready::{Ready, TreeSet};
 use crate::refusal::Refusal;
 use crate::shelf::{MAX_PLACES, Shelf};
-use crate::trace::{Event, Kind, read};
-use crate::tree::{Dispatch, Draft, Grant, ROOT, Tree};
+use crate::trace::{Event, Kind, Trace, read};
+use crate::tree::{Dispatch, Grant, ROOT, Tree};
 
 /// Plays a trace and answers its listing, or the line of its first fault.
 pub fn play(input: &[u8]) -> Vec<u8> {
-    play_with::<TreeSet>(input)
+    let mut out = Vec::new();
+    play_into::<TreeSet>(input, &mut out);
+    out
 }
 
-/// The same over a chosen set of backlogged children.
-pub fn play_with<R: Ready>(input: &[u8]) -> Vec<u8> {
+/// The same over a chosen set of backlogged children, written to the end of `out`.
+pub fn play_into<R: Ready>(input: &[u8], out: &mut Vec<u8>) {
     match read(input) {
-        Err(fault) => format!("{fault}\n").into_bytes(),
-        Ok(trace) => {
-            let (draft, link, events) = (trace.draft, trace.link, trace.events);
-            match trace.kind {
-                Kind::Quantum => Player::<R, _, _>::new(draft, link, |time| Quantum { task: 0, time }).run(&events),
-                Kind::Block => Player::<R, _, _>::new(draft, link, |length| Block { sector: 0, length }).run(&events),
-            }
-        }
+        Err(fault) => out.extend_from_slice(format!("{fault}\n").as_bytes()),
+        Ok(trace) => match trace.kind {
+            Kind::Quantum => run::<R, _>(trace, |time| Quantum { task: 0, time }, out),
+            Kind::Block => run::<R, _>(trace, |length| Block { sector: 0, length }, out),
+        },
     }
+}
+
+fn run<R: Ready, I: Item>(trace: Trace, item: impl Fn(u32) -> I, out: &mut Vec<u8>) {
+    let tree = trace.draft.open::<R>();
+    let charges = vec![0; usize::from(tree.class_count())];
+    let shelf = Shelf::new(MAX_PLACES);
+    let mut player = Player { tree, shelf, link: trace.link, item, turn: None, charges, out };
+    for event in &trace.events {
+        player.play(*event);
+    }
+    if player.turn.is_some() {
+        player.give_up();
+    }
+    player.sums();
 }
 
 /// The open turn's grant and leaf.
@@ -31,7 +44,7 @@ struct Turn {
     leaf: u8,
 }
 
-struct Player<R, I, F> {
+struct Player<'a, R, I, F> {
     tree: Tree<R>,
     shelf: Shelf<I>,
     link: Interrupted<FixedLink>,
@@ -39,32 +52,18 @@ struct Player<R, I, F> {
     turn: Option<Turn>,
     /// Charges by the leaf that was served.
     charges: Vec<u64>,
-    out: Vec<u8>,
+    out: &'a mut Vec<u8>,
 }
 
-impl<R: Ready, I: Item, F: Fn(u32) -> I> Player<R, I, F> {
-    fn new(draft: Draft, link: Interrupted<FixedLink>, item: F) -> Self {
-        let tree = draft.open::<R>();
-        let charges = vec![0; usize::from(tree.len())];
-        Player { tree, shelf: Shelf::new(MAX_PLACES), link, item, turn: None, charges, out: Vec::new() }
-    }
-
-    fn run(mut self, events: &[Event]) -> Vec<u8> {
-        self.out.reserve(16 * events.len());
-        for event in events {
-            match *event {
-                Event::Submit { class, cost } => self.submit(class, cost),
-                Event::Dispatch => self.dispatch(),
-                Event::Pulse => self.pulse(),
-                Event::End => self.close(b'e', |tree, shelf, grant| tree.end(grant, shelf)),
-                Event::GiveUp => self.give_up(),
-            }
+impl<R: Ready, I: Item, F: Fn(u32) -> I> Player<'_, R, I, F> {
+    fn play(&mut self, event: Event) {
+        match event {
+            Event::Submit { class, cost } => self.submit(class, cost),
+            Event::Dispatch => self.dispatch(),
+            Event::Pulse => self.pulse(),
+            Event::End => self.close(b'e', |tree, shelf, grant| tree.end(grant, shelf)),
+            Event::GiveUp => self.give_up(),
         }
-        if self.turn.is_some() {
-            self.give_up();
-        }
-        self.sums();
-        self.out
     }
 
     fn submit(&mut self, class: Option<u8>, cost: u32) {
@@ -84,8 +83,8 @@ impl<R: Ready, I: Item, F: Fn(u32) -> I> Player<R, I, F> {
                 self.turn = Some(Turn { grant, leaf: class });
                 self.out.extend_from_slice(b"d 0 ");
                 self.out.extend_from_slice(self.tree.name(class));
-                push_number(&mut self.out, cost.into());
-                push_number(&mut self.out, self.tree.start_tag(class));
+                push_number(self.out, cost.into());
+                push_number(self.out, self.tree.start_tag(class));
                 self.out.push(b'\n');
             }
             Err(refusal) => self.refused(b'd', refusal),
@@ -128,14 +127,14 @@ impl<R: Ready, I: Item, F: Fn(u32) -> I> Player<R, I, F> {
 
     /// The charges of each class: its own turns and those of the classes below it.
     fn sums(&mut self) {
-        for class in (ROOT + 1..self.tree.len()).rev() {
+        for class in (ROOT + 1..self.tree.class_count()).rev() {
             let parent = self.tree.parent(class);
             self.charges[usize::from(parent)] += self.charges[usize::from(class)];
         }
-        for class in ROOT..self.tree.len() {
+        for class in ROOT..self.tree.class_count() {
             self.out.extend_from_slice(b"s ");
             self.out.extend_from_slice(self.tree.name(class));
-            push_number(&mut self.out, self.charges[usize::from(class)]);
+            push_number(self.out, self.charges[usize::from(class)]);
             self.out.push(b'\n');
         }
     }
@@ -143,14 +142,14 @@ impl<R: Ready, I: Item, F: Fn(u32) -> I> Player<R, I, F> {
     fn accepted(&mut self, letter: u8, values: &[u32]) {
         self.out.extend_from_slice(&[letter, b' ', b'0']);
         for value in values {
-            push_number(&mut self.out, u64::from(*value));
+            push_number(self.out, u64::from(*value));
         }
         self.out.push(b'\n');
     }
 
     fn refused(&mut self, letter: u8, refusal: Refusal) {
         self.out.push(letter);
-        push_number(&mut self.out, refusal.number().into());
+        push_number(self.out, refusal.number().into());
         self.out.push(b'\n');
     }
 }

@@ -49,10 +49,6 @@ impl<I: Item> Shelf<I> {
         self.lanes.get(usize::from(lane)).map_or(0, VecDeque::len)
     }
 
-    pub fn is_full(&self) -> bool {
-        self.used == self.places
-    }
-
     pub(crate) fn head_mut(&mut self, lane: u8) -> Option<&mut I> {
         self.lanes.get_mut(usize::from(lane))?.front_mut()
     }

@@ -238,7 +238,7 @@ impl<R: Ready> Tree<R> {
         }
     }
 
-    pub fn len(&self) -> u8 {
+    pub fn class_count(&self) -> u8 {
         self.classes.len() as u8 // at most 64
     }
 

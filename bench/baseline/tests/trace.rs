@@ -1,6 +1,6 @@
 //! Traces and their listings, worked out by hand from the rules. `/` stands for a line end.
 
-use baseline::{HeapSet, play, play_with};
+use baseline::{HeapSet, play, play_into};
 
 fn bytes(text: &str) -> Vec<u8> {
     text.replace('/', "\n").into_bytes()
@@ -9,7 +9,9 @@ fn bytes(text: &str) -> Vec<u8> {
 fn gives(trace: &str, listing: &str) {
     let (trace, listing) = (bytes(trace), String::from_utf8(bytes(listing)).unwrap());
     assert_eq!(String::from_utf8(play(&trace)).unwrap(), listing);
-    assert_eq!(String::from_utf8(play_with::<HeapSet>(&trace)).unwrap(), listing);
+    let mut out = Vec::new();
+    play_into::<HeapSet>(&trace, &mut out);
+    assert_eq!(String::from_utf8(out).unwrap(), listing);
 }
 
 fn faults(table: &[(&str, &str)]) {
@@ -312,7 +314,7 @@ fn sizes_at_the_limit() {
     // 15 bytes before the events; `a b 1/` has 6 and an unknown name, `d/` has 2.
     let of_size = |size: usize| {
         let mut trace = bytes("sfq1 block/l 1/");
-        if size % 2 == 0 {
+        if size.is_multiple_of(2) {
             trace.extend_from_slice(b"a bb 1\n");
         }
         while trace.len() < size {
@@ -324,7 +326,7 @@ fn sizes_at_the_limit() {
         let trace = of_size(size);
         assert_eq!(trace.len(), size);
         let dispatches = trace.iter().filter(|b| **b == b'd').count();
-        let first = if size % 2 == 0 { "a 1\n" } else { "" };
+        let first = if size.is_multiple_of(2) { "a 1\n" } else { "" };
         assert_eq!(play(&trace), format!("{first}{}s root 0\n", "d 7\n".repeat(dispatches)).into_bytes());
     }
     assert_eq!(play(&of_size(32_769)), b"! text 0 0 19\n");
