@@ -1,0 +1,4 @@
+pub mod Fixed
+pub mod Interrupts
+pub mod Listed
+pub mod Outages
