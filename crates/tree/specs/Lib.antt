@@ -1,0 +1,6 @@
+pub mod Loads
+pub mod Walks
+pub mod Turns
+pub mod Counts
+pub mod States
+pub mod Draws

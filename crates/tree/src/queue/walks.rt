@@ -1,0 +1,111 @@
+//! The three walks from a leaf up to the root, one class at a time.
+ghost use mathlib.Core.Path.{_≡_};
+ghost use mathlib.Core.Bool.{Bool, cond, not, _&&_};
+ghost use Prim.Native.Nat.{ℕ, _+_, _*_, _<_, _≤_};
+ghost use lib.Dec.{eqb, ltb};
+ghost use Rattle.classes.specs.Tables.{shape-of, weight-of, node-above};
+ghost use Rattle.rules.specs.Shape.{child, under};
+ghost use Rattle.tags.specs.Held.{Held};
+ghost use Rattle.tree.specs.Loads.{load, stocked};
+ghost use Rattle.tree.specs.Walks.{Advanced, settled, woken, woken-held};
+use crate::load::Load;
+use crate::queue::Queue;
+use base::units::Parts;
+use base::units::Units;
+use base::weight::charge;
+use classes::table::ClassTable;
+use tags::TagStore;
+
+impl<T: TagStore> Queue<T> {
+    /// Counts one more item in the lane of a leaf, and wakes what was not backlogged of it and the classes above it.
+    pub(crate) fn wake(&mut self, table: &ClassTable, leaf: u8)
+        requires known { ⌜ leaf < now table .len ⌝ }
+        requires room { ⌜ ((k : ℕ) → load (now self .loads) k .backlog < 4294967295) ⌝ }
+        ensures loads { λ _. ⌜ ((k : ℕ) → load (now (self .exit) .loads) k ≡ woken (shape-of (now (table .entry))) (now (self .entry) .loads) (λ j. under (shape-of (now (table .entry))) j leaf) k) ⌝ }
+        ensures held { λ _. ⌜ ((k : ℕ) → T·TagStore .held (now (self .exit) .store) k ≡ woken-held (shape-of (now (table .entry))) (now (self .entry) .loads) (λ j. under (shape-of (now (table .entry))) j leaf) (T·TagStore .held (now (self .entry) .store)) k) ⌝ }
+    {
+        let mut next = Some(leaf);
+        while let Some(class) = next {
+            next = self.wake_class(table, class);
+        }
+    }
+
+    /// The same for one class; answers the node above it.
+    fn wake_class(&mut self, table: &ClassTable, class: u8) -> Option<u8>
+        requires known { ⌜ class < now table .len ⌝ }
+        requires room { ⌜ load (now self .loads) class .backlog < 4294967295 ⌝ }
+        ensures value { λ r. ⌜ r ≡ node-above (now (table .entry)) class ⌝ }
+        ensures loads { λ _. ⌜ ((k : ℕ) → load (now (self .exit) .loads) k ≡ woken (shape-of (now (table .entry))) (now (self .entry) .loads) (eqb class) k) ⌝ }
+        ensures held { λ _. ⌜ ((k : ℕ) → T·TagStore .held (now (self .exit) .store) k ≡ woken-held (shape-of (now (table .entry))) (now (self .entry) .loads) (eqb class) (T·TagStore .held (now (self .entry) .store)) k) ⌝ }
+    {
+        let load = self.loads[class as usize];
+        let backlog = load.backlog + 1;
+        let above = table.parent(class);
+        let Some(node) = above else {
+            self.loads[class as usize] = Load { backlog, ..load };
+            return None;
+        };
+        if load.backlog > 0 {
+            self.loads[class as usize] = Load { backlog, ..load };
+            return above;
+        }
+        let start = self.loads[node as usize].vtime.max(load.finish);
+        self.loads[class as usize] = Load { backlog, start, ..load };
+        let _ = self.store.put(node, class, start);
+        above
+    }
+
+    /// A turn of the leaf begins: each node above it takes the start tag of the child on the way for its virtual time.
+    pub(crate) fn advance(&mut self, table: &ClassTable, leaf: u8)
+        requires known { ⌜ leaf < now table .len ⌝ }
+        ensures loads { λ _. ⌜ Advanced (shape-of (now (table .entry))) leaf (now (self .entry) .loads) (now (self .exit) .loads) ⌝ }
+        ensures store { λ _. ⌜ now (self .exit) .store ≡ now (self .entry) .store ⌝ }
+    {
+        let mut class = leaf;
+        while let Some(node) = table.parent(class) {
+            let start = self.loads[class as usize].start;
+            let load = self.loads[node as usize];
+            self.loads[node as usize] = Load { vtime: start, ..load };
+            class = node;
+        }
+    }
+
+    /// A turn of the leaf is closed: its work is charged to the leaf and the classes above it but the root. `gone` says that its item has
+    /// left the lane.
+    pub(crate) fn settle(&mut self, table: &ClassTable, leaf: u8, done: u32, gone: bool)
+        requires known { ⌜ leaf < now table .len ⌝ }
+        requires room { ⌜ ((k : ℕ) → load (now self .loads) k .start .0 + 720720 * done ≤ 720720000000000000) ⌝ }
+        requires blank { ⌜ ((k : ℕ) → now table .len ≤ k → load (now self .loads) k .finish .0 ≡ 0) ⌝ }
+        ensures loads { λ _. ⌜ ((k : ℕ) → load (now (self .exit) .loads) k ≡ settled (shape-of (now (table .entry))) (weight-of (now (table .entry))) (now (self .entry) .loads) (λ j. under (shape-of (now (table .entry))) j leaf) done gone k) ⌝ }
+        ensures held { λ _. ⌜ ((k : ℕ) → T·TagStore .held (now (self .exit) .store) k ≡ cond (ltb 0 k && under (shape-of (now (table .entry))) k leaf) (stocked (shape-of (now (table .entry))) (now (self .exit) .loads) k) (T·TagStore .held (now (self .entry) .store) k)) ⌝ }
+    {
+        let mut next = Some(leaf);
+        while let Some(class) = next {
+            next = self.settle_class(table, class, done, gone);
+        }
+    }
+
+    /// The same for one class; answers the node above it.
+    fn settle_class(&mut self, table: &ClassTable, class: u8, done: u32, gone: bool) -> Option<u8>
+        requires known { ⌜ class < now table .len ⌝ }
+        requires room { ⌜ load (now self .loads) class .start .0 + 720720 * done ≤ 720720000000000000 ⌝ }
+        requires blank { ⌜ ((k : ℕ) → now table .len ≤ k → load (now self .loads) k .finish .0 ≡ 0) ⌝ }
+        ensures value { λ r. ⌜ r ≡ node-above (now (table .entry)) class ⌝ }
+        ensures loads { λ _. ⌜ ((k : ℕ) → load (now (self .exit) .loads) k ≡ settled (shape-of (now (table .entry))) (weight-of (now (table .entry))) (now (self .entry) .loads) (eqb class) done gone k) ⌝ }
+        ensures held { λ _. ⌜ ((k : ℕ) → T·TagStore .held (now (self .exit) .store) k ≡ cond (ltb 0 k && eqb class k) (stocked (shape-of (now (table .entry))) (now (self .exit) .loads) k) (T·TagStore .held (now (self .entry) .store) k)) ⌝ }
+    {
+        let above = table.parent(class);
+        match above {
+            Some(node) => self.charge_class(table, class, node, done, gone),
+            None => self.count_root(gone),
+        }
+        if self.loads[class as usize].backlog == 0 {
+            self.rest(table, class);
+        }
+        above
+    }
+
+    // charge_class: finish = start + charge(done, weight); take the class out of the store; where it is still backlogged it starts at the
+    // later of the node's virtual time and its finish tag and is put back. count_root: one item less where gone. rest: virtual time 0, and
+    // finish tag 0 for each child, by first_child and next_sibling.
+}
