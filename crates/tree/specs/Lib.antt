@@ -3,4 +3,3 @@ pub mod Walks
 pub mod Turns
 pub mod Counts
 pub mod States
-pub mod Draws
