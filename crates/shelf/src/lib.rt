@@ -1,0 +1,3 @@
+//! Items in lanes over the caller's memory.
+pub mod shelf;
+mod table;
