@@ -1,0 +1,7 @@
+pub mod Paths
+pub mod Writes
+pub mod Waking
+pub mod Settling
+pub mod Resting
+pub mod Advancing
+pub mod Descending
