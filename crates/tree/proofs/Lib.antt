@@ -1,6 +1,13 @@
+pub mod Paths
+pub mod Writes
+pub mod Waking
+pub mod Settling
+pub mod Resting
+pub mod Advancing
+pub mod Descending
 pub mod Sums
 pub mod Counts
-pub mod Wakes
+pub mod Submissions
+pub mod Picks
+pub mod Dispatches
 pub mod Closings
-pub mod Ways
-pub mod Advances

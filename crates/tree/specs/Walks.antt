@@ -10,7 +10,7 @@ use Rattle.std.specs.declared.option.Option.the-variants.{Some, None}
 use Rattle.base.specs.Charge.{charged}
 use Rattle.base.specs.declared.units.Parts.{Parts}
 use Rattle.tags.specs.Held.{Held, free, leastOf}
-use Rattle.rules.specs.Shape.{Shape, under}
+use Rattle.rules.specs.Shape.{Shape, under, child}
 use Rattle.tree.specs.Loads.{load}
 use Rattle.tree.specs.declared.load.Load.{Load}
 
@@ -52,15 +52,31 @@ module _ (t : Shape) (w : ℕ → ℕ) (ls : List Load) (on : ℕ → Bool) (d :
   abbrev pub reached : ℕ → ℕ
   reached k = cond (ltb 0 k && on k) (load ls k .start .0 + charged d (w k)) (load ls k .finish .0)
 
-  -- a class of the path that is still backlogged starts at the later of its parent's virtual time and its finish tag; where a node of the
-  -- path rests, its virtual time and its children's finish tags are 0
+  -- a class of the path that is still backlogged starts at the later of its parent's virtual time and its finish tag
+  abbrev pub restarted : ℕ → ℕ
+  restarted k = cond (ltb 0 k && on k && ltb 0 (fewer k)) (max (load ls (t .parent k) .vtime .0) (reached k)) (load ls k .start .0)
+
+  -- the classes of the path with their charges, before a node rests
+  abbrev pub charged-load : ℕ → Load
+  charged-load k = record { backlog = fewer k; start = record { 0 = restarted k }; finish = record { 0 = reached k }; vtime = load ls k .vtime }
+
+  -- where a node of the path rests, its virtual time and its children's finish tags are 0
   abbrev pub settled : ℕ → Load
   settled k = record {
     backlog = fewer k;
-    start = record { 0 = cond (ltb 0 k && on k && ltb 0 (fewer k)) (max (load ls (t .parent k) .vtime .0) (reached k)) (load ls k .start .0) };
+    start = record { 0 = restarted k };
     finish = record { 0 = cond (ltb 0 k && rests (t .parent k)) 0 (reached k) };
     vtime = record { 0 = cond (rests k) 0 (load ls k .vtime .0) };
   }
+
+-- a node rests: its virtual time and its children's finish tags are 0
+abbrev pub rested : Shape → List Load → ℕ → ℕ → Load
+rested t ls node k = record {
+  backlog = load ls k .backlog;
+  start = load ls k .start;
+  finish = record { 0 = cond (child t node k) 0 (load ls k .finish .0) };
+  vtime = record { 0 = cond (eqb node k) 0 (load ls k .vtime .0) };
+}
 
 -- the child that the store has for least under a node, or the node itself
 abbrev pub child-or : Option (ℕ × Parts) → ℕ → ℕ

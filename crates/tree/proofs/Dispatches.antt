@@ -26,7 +26,7 @@ use Rattle.tree.specs.declared.load.Load.{Load}
 use Rattle.tree.specs.declared.phase.Phase.{Phase}
 use Rattle.tree.specs.declared.phase.Phase.the-variants.{Open}
 use Rattle.tree.proofs.Counts.{leaves, busy-backlog}
-use Rattle.tree.proofs.Ways.{pair-of}
+use Rattle.tree.proofs.Picks.{pair-of}
 
 module _ (t : Shape) (ls ms : List Load) (c : ℕ) (moved : Advanced t c ls ms) where
   -- the counts stay

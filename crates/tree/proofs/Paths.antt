@@ -1,0 +1,134 @@
+-- The way up from a class to the root, by the test `under`.
+use mathlib.Core.Path.{_≡_, refl, sym, ap, subst, _∙_}
+use mathlib.Core.Logic.{inl, inr}
+use mathlib.Core.Bool.{Bool, true, false, cond, not, _&&_, _||_}
+use Prim.Native.Nat.{ℕ, suc, _<_, _≤_}
+use native.Mathlib.Omega.{arith}
+use lib.Dec.{eqb, ltb}
+use Rattle.std.specs.declared.option.Option.{Option}
+use Rattle.std.specs.declared.option.Option.the-variants.{Some, None}
+use Rattle.std.specs.Options.{Cases}
+use Rattle.std.proofs.shelf.Tests.{cases-eq, eq-eqb, ne-eqb, eqb-true, lt-ltb, or-cases, or-left, or-right}
+use Rattle.rules.specs.Shape.{Shape, Sound, under}
+use Rattle.rules.proofs.Tests.{no-test, same-test}
+use Rattle.rules.proofs.Tree.{Below, here, up, below-le, below-under, under-below, under-le, under-parent, under-root}
+
+-- the node above class c: none for the root and for a number that no class has
+abbrev pub above : Shape → ℕ → Option ℕ
+above t c = cond (ltb 0 c && ltb c (t .count)) (Some (t .parent c)) None
+
+-- the classes that a walk up from the leaf has come by, where `next` is the next one, or none once it is past the root
+abbrev pub came : Shape → ℕ → Option ℕ → ℕ → Bool
+came t leaf None j = under t j leaf
+came t leaf (Some c) j = under t j leaf && not (under t j c)
+
+-- class numbers fall on the way
+abbrev pub to-come : Option ℕ → ℕ
+to-come None = 0
+to-come (Some c) = suc c
+
+-- the next class is one of the path
+abbrev pub OnPath : Shape → ℕ → Option ℕ → Type 0
+OnPath t leaf next = Cases next (Unit {0}) (λ c. under t c leaf ≡ true)
+
+none-yet : (b : Bool) → (b && not b) ≡ false
+none-yet true = refl
+none-yet false = refl
+
+and-true : (b : Bool) → (b && true) ≡ b
+and-true true = refl
+and-true false = refl
+
+or-false : (b : Bool) → (b || false) ≡ b
+or-false true = refl
+or-false false = refl
+
+and-not : (a b : Bool) → b ≡ true → (a && not b) ≡ false
+and-not true b e = ap not e
+and-not false b e = refl
+
+module _ {t : Shape} (ok : Sound t) where
+  -- a class is on its own path
+  pub under-self : {c : ℕ} → c < t .count → under t c c ≡ true
+  under-self lt = below-under ok lt (here refl)
+
+  -- no class is above a class with a smaller number
+  pub under-not : (k c : ℕ) → c < k → under t k c ≡ false
+  under-not k c l = no-test _ (λ u. omega (arith, under-le ok k c u))
+
+  -- nothing but the root is above the root
+  pub under-zero : (k : ℕ) → under t k 0 ≡ eqb k 0
+  under-zero k = elim (cases-eq k 0) [
+    | inl z ↦ ap (λ k. under t k 0) z ∙ under-self (ok .some) ∙ sym (eq-eqb k 0 z)
+    | inr z ↦ under-not k 0 (omega arith) ∙ sym (ne-eqb k 0 z)
+  ]
+
+  -- one step up
+  pub under-step : (k : ℕ) {c : ℕ} → 0 < c → c < t .count → under t k c ≡ (eqb k c || under t k (t .parent c))
+  under-step k {c} pos lt = same-test _ _
+      (λ u. go (under-below ok u))
+      (λ u. elim (or-cases _ _ u) [ inl e ↦ below-under ok lt (here (sym (eqb-true k c e))) | inr e ↦ below-under ok lt (up pos (under-below ok e)) ])
+    where
+      go : Below t k c → (eqb k c || under t k (t .parent c)) ≡ true
+      go (here e) = or-left _ _ (eq-eqb k c (sym e))
+      go (up p x) = or-right (eqb k c) _ (below-under ok (omega (arith, ok .earlier c pos)) x)
+
+  module _ (leaf : ℕ) (known : leaf < t .count) where
+    -- a class of the path is a class of the tree
+    pub path-known : {c : ℕ} → under t c leaf ≡ true → c < t .count
+    path-known {c} u = omega (arith, under-le ok c leaf u)
+
+    -- at first the walk has come by no class
+    pub came-none : (j : ℕ) → came t leaf (Some leaf) j ≡ false
+    came-none j = none-yet (under t j leaf)
+
+    -- the next class and the node above it are still to come
+    pub came-here : (c : ℕ) → under t c leaf ≡ true → came t leaf (Some c) c ≡ false
+    came-here c u = and-not (under t c leaf) (under t c c) (under-self (path-known u))
+
+    pub came-above : (c : ℕ) → under t c leaf ≡ true → came t leaf (Some c) (t .parent c) ≡ false
+    came-above c u = and-not (under t (t .parent c) leaf) (under t (t .parent c) c) (under-parent ok c c (path-known u) (under-self (path-known u)))
+
+    -- once the walk has come by the next class too, the node above that is next
+    step-some : {c : ℕ} → 0 < c → under t c leaf ≡ true → (j : ℕ) → came t leaf (Some (t .parent c)) j ≡ (came t leaf (Some c) j || eqb c j)
+    step-some {c} pos u j = elim (cases-eq c j) [
+      | inl e ↦
+        let off : under t j (t .parent c) ≡ false = under-not j (t .parent c) (omega (arith, ok .earlier c pos)) in
+        rw (off, sym (ap (λ k. under t k leaf) e) ∙ u) (sym (or-right _ _ (eq-eqb c j e)))
+      | inr e ↦
+        let same : under t j c ≡ under t j (t .parent c) = under-step j pos (path-known u) ∙ ap (λ b. b || under t j (t .parent c)) (ne-eqb j c (λ z. e (sym z))) in
+        rw (ne-eqb c j e, same) (sym (or-false _))
+    ]
+
+    step-none : (j : ℕ) → came t leaf None j ≡ (came t leaf (Some 0) j || eqb 0 j)
+    step-none j = elim (cases-eq 0 j) [
+      | inl e ↦ sym (ap (λ k. under t k leaf) e) ∙ under-root ok known ∙ sym (or-right _ _ (eq-eqb 0 j e))
+      | inr e ↦ sym (rw (ne-eqb 0 j e, under-zero j, ne-eqb j 0 (λ z. e (sym z))) (or-false _ ∙ and-true _))
+    ]
+
+    pub came-more : (c : ℕ) → under t c leaf ≡ true → (j : ℕ) → came t leaf (above t c) j ≡ (came t leaf (Some c) j || eqb c j)
+    came-more c u j = elim (cases-eq c 0) [
+      | inl z ↦ subst (λ c. came t leaf (above t c) j ≡ (came t leaf (Some c) j || eqb c j)) (sym z) (step-none j)
+      | inr z ↦ rw (lt-ltb 0 c (omega arith), lt-ltb c (t .count) (path-known u)) (step-some (omega arith) u j)
+    ]
+
+    -- and it is of the path
+    pub path-more : (c : ℕ) → under t c leaf ≡ true → OnPath t leaf (above t c)
+    path-more c u = elim (cases-eq c 0) [
+      | inl z ↦ subst (λ c. OnPath t leaf (above t c)) (sym z) tt
+      | inr z ↦ rw (lt-ltb 0 c (omega arith), lt-ltb c (t .count) (path-known u)) (under-parent ok c leaf known u)
+    ]
+
+    -- a walk in which `next` is the next class, c: there is such a class, and fewer are to come after it
+    module _ (next : Option ℕ) (c : ℕ) (is : next ≡ Some c) (on : OnPath t leaf next) where
+      pub path-next : under t c leaf ≡ true
+      path-next = subst (OnPath t leaf) is on
+
+      pub next-known : c < t .count
+      next-known = path-known path-next
+
+      pub next-falls : (next′ : Option ℕ) → next′ ≡ above t c → to-come next′ < to-come next
+      next-falls next′ e = rw (e, is) (elim (cases-eq c 0) [
+        | inl z ↦ subst (λ c. to-come (above t c) < suc c) (sym z) (omega arith)
+        | inr z ↦ rw (lt-ltb 0 c (omega arith), lt-ltb c (t .count) next-known) (omega (arith, ok .earlier c (omega arith)))
+      ])
