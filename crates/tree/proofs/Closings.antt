@@ -1,31 +1,46 @@
 -- A turn is closed: what the walk makes of the loads is what the rules say of a closing. Assumes nothing.
 use mathlib.Core.Path.{_≡_, refl, sym, ap, subst, _∙_, fun-ext}
-use mathlib.Core.Logic.{inl, inr}
+use mathlib.Core.Logic.{_⊎_, inl, inr, ⊎-elim}
 use mathlib.Core.Bool.{Bool, true, false, cond, not, _&&_}
 use mathlib.Core.List.{List}
 use Prim.Native.Nat.{ℕ, _+_, _-_, _*_, _/_, _<_, _≤_, max}
 use native.Mathlib.Nat.{div-le-self}
 use native.Mathlib.Omega.{arith}
 use lib.Dec.{eqb, ltb}
+use lib.ListN.{length}
 use Rattle.std.specs.declared.option.Option.{Option}
 use Rattle.std.specs.declared.option.Option.the-variants.{Some, None}
-use Rattle.std.proofs.shelf.Tests.{cond-both, cond-true}
+use Rattle.std.proofs.shelf.Tests.{cases-eq, cond-both, cond-true, cond-false, eq-eqb, ne-eqb, not-from-true, not-from-false, or-left, or-right, or-from, both-ways}
 use Rattle.base.specs.Charge.{charged}
+use Rattle.base.specs.declared.refusal.Refusal.the-variants.{LaneMismatch, NoStoppingPoint}
 use Rattle.base.specs.declared.units.Parts.{Parts}
+use Rattle.classes.specs.Tables.{shape-of, weight-of}
+use Rattle.classes.proofs.Tables.{shape-sound}
+use Rattle.rules.specs.Kind.{Kind}
 use Rattle.rules.specs.Shape.{Shape, Sound, under, leaf}
-use Rattle.rules.specs.State.{State, put, backlogged-by}
-use Rattle.rules.specs.Rules.{settle}
+use Rattle.rules.specs.State.{State, put, is-open, backlogged-by}
+use Rattle.rules.specs.Rules.{Grant, end-turn, give-up, refused, closed, head-cost, may-stop, settle, Step}
+use Rattle.rules.specs.Rules as rules
 use Rattle.rules.specs.Laws.{Within}
+use Rattle.rules.proofs.Calls.{accept, refuse}
 use Rattle.rules.proofs.Tests.{no-test}
 use Rattle.rules.proofs.Tree.{under-le}
+use Rattle.shelf.specs.Lanes.{lanes, room}
+use Rattle.shelf.specs.declared.shelf.Shelf.{Shelf}
 use Rattle.tags.specs.Held.{Held}
+use Rattle.tree.specs.Closings.{Closes}
 use Rattle.tree.specs.Counts.{queued, Counted}
 use Rattle.tree.specs.Loads.{load, stocked, Stocked}
+use Rattle.tree.specs.Turns.{turn, serving}
 use Rattle.tree.specs.Walks.{fewer, rests, reached, settled}
 use Rattle.tree.specs.States.{tags, state}
+use Rattle.tree.specs.Trees.{state-of, InStep}
 use Rattle.tree.specs.declared.load.Load.{Load}
+use Rattle.tree.specs.declared.phase.Phase.{Phase}
 use Rattle.tree.specs.declared.phase.Phase.the-variants.{Free, Open}
-use Rattle.tree.proofs.Counts.{busy-backlog, queued-low, queued-put, counted-put, few-put}
+use Rattle.tree.specs.declared.tree.Tree.{Tree}
+use Rattle.tree.proofs.Counts.{leaves, queue-known, busy-backlog, queued-low, queued-put, counted-put, few-put}
+use Rattle.tree.proofs.Grants.{own, at, names}
 
 -- a pair of the store, where z says that the class is not the root and o that it is on the path, b is its backlog, p its parent, s its
 -- start tag and m the tag it starts with again
@@ -148,3 +163,72 @@ module _ (t : Shape) (w : ℕ → ℕ) (ls ms : List Load) (c d : ℕ) (gone : B
         phase = None;
         meter = meter + d;
       }
+
+-- u is t after the closing
+module _ {T I : Type 0} (held : T → Held) (t u : Tree T I) (leaf done : ℕ) (gone : Bool) (c : Closes held t leaf done gone u) where
+  abbrev shape : Shape
+  shape = shape-of (t .table)
+
+  -- the store is in step again
+  pub closes-in-step : InStep held t → InStep held u
+  closes-in-step ins = subst (λ x. Stocked (shape-of x) (held (u .queue .store)) (u .queue .loads)) (sym (c .table))
+      (settled-stocked shape (weight-of (t .table)) (t .queue .loads) (u .queue .loads) leaf done gone (c .loads) (held (t .queue .store)) (held (u .queue .store)) ins (c .store))
+
+  -- the state is the one that the rules leave
+  pub closes-to : 0 < queued shape (t .queue .loads) leaf → (sh sh′ : Shelf I) (cost w : ℕ) (q : ℕ → ℕ) → ((k : ℕ) → put (queued shape (t .queue .loads)) leaf (cond gone (queued shape (t .queue .loads) leaf - 1) (queued shape (t .queue .loads) leaf)) k ≡ q k) →
+      room sh′ ≡ room sh → (lane′ : ℕ → List I) → lanes sh′ ≡ lane′ →
+      state-of u sh′ w ≡ settle (state (t .house) shape (weight-of (t .table)) (t .queue .loads) (Open leaf cost done) (t .meter .0) (t .turns) (room sh) (lanes sh) w) lane′ q
+  closes-to some sh sh′ cost w q queues rooms lane′ lane =
+      (λ i. state (c .house i) (shape-of (c .table i)) (weight-of (c .table i)) (u .queue .loads) (c .free i) (c .charged i) (c .turns i) (rooms i) (lane i) w)
+      ∙ closing-leaves shape (weight-of (t .table)) (t .queue .loads) (u .queue .loads) leaf done gone (c .loads) (shape-sound (t .table)) (t .counted)
+      (queue-known shape (t .queue .loads) (t .counted) (shape-sound (t .table)) leaf some) (leaves shape (t .queue .loads) leaf some) (λ _. some) q queues
+      (t .house) cost (t .meter .0) (t .turns) (room sh) (lanes sh) lane′ w
+
+put-same : (q : ℕ → ℕ) (c k : ℕ) → put q c (q c) k ≡ q k
+put-same q c k = elim (cases-eq k c) [
+  | inl e ↦ cond-true (eqb k c) (q c) (q k) (eq-eqb k c e) ∙ ap q (sym e)
+  | inr e ↦ cond-false (eqb k c) (q c) (q k) (ne-eqb k c e)
+]
+
+-- the calls that close the turn of the leaf
+module _ {T I : Type 0} (K : Kind I) (t : Tree T I) (g : Grant) (leaf cost done : ℕ) (opened : t .phase ≡ Open leaf cost done) (is-own : true ≡ own K t g) (sh : Shelf I) where
+  abbrev counts : ℕ
+  counts = queued (shape-of (t .table)) (t .queue .loads) leaf
+
+  abbrev now : ℕ → State I
+  now w = at K t g sh w (Open leaf cost done)
+
+  -- the lane has an item
+  pub some : 0 < counts
+  some = subst (λ p. is-open (turn p) ≡ true → 0 < queued (shape-of (t .table)) (t .queue .loads) (serving p .leaf)) opened (t .served) refl
+
+  right : (w : ℕ) → rules.wrong-grant (now w) g ≡ false
+  right w = let n = names K t g leaf cost done opened is-own sh w in or-from _ _ (not-from-true _ (eq-eqb _ _ (n .house))) (not-from-true _ (eq-eqb _ _ (n .turn)))
+
+  -- the lane is not as long as counted
+  pub give-up-mismatch : eqb (length (lanes sh leaf)) counts ≡ false → (w : ℕ) → Step K (state-of t sh w) (give-up g) (refused LaneMismatch) (state-of t sh w)
+  give-up-mismatch off w = subst (λ p. Step K (at K t g sh w p) (give-up g) (refused LaneMismatch) (at K t g sh w p)) (sym opened) (refuse K (now w) (give-up g) 1 LaneMismatch (right w, (not-from-false _ off, refl)))
+
+  pub end-mismatch : (eqb (length (lanes sh leaf)) counts ≡ false) ⊎ (head-cost K (lanes sh leaf) ≡ cost → ⊥) → (w : ℕ) → Step K (state-of t sh w) (end-turn g) (refused LaneMismatch) (state-of t sh w)
+  end-mismatch off w = subst (λ p. Step K (at K t g sh w p) (end-turn g) (refused LaneMismatch) (at K t g sh w p)) (sym opened)
+      (refuse K (now w) (end-turn g) 1 LaneMismatch (right w, (⊎-elim (λ e. or-left _ _ (not-from-false _ e)) (λ e. or-right (not (eqb (length (lanes sh leaf)) counts)) _ (not-from-false _ (ne-eqb _ _ e))) off, refl)))
+
+  module _ (full : length (lanes sh leaf) ≡ counts) where
+    -- the turn is given up: the item stays
+    pub gives-up : (held : T → Held) (u : Tree T I) → Closes held t leaf done false u → (w : ℕ) → Step K (state-of t sh w) (give-up g) (closed done) (state-of u sh w)
+    gives-up held u c w = subst (λ p. Step K (at K t g sh w p) (give-up g) (closed done) (state-of u sh w)) (sym opened)
+        (subst (Step K (now w) (give-up g) (closed done)) (sym (closes-to held t u leaf done false c some sh sh cost w (queued (shape-of (t .table)) (t .queue .loads)) (put-same (queued (shape-of (t .table)) (t .queue .loads)) leaf) refl (lanes sh) refl))
+        (accept K (now w) (give-up g) 0 (names K t g leaf cost done opened is-own sh w, full) (omega arith)))
+
+    module _ (costs : head-cost K (lanes sh leaf) ≡ cost) where
+      -- the item may not stop there
+      pub no-stop : may-stop K (lanes sh leaf) done ≡ false → (w : ℕ) → Step K (state-of t sh w) (end-turn g) (refused NoStoppingPoint) (state-of t sh w)
+      no-stop off w = subst (λ p. Step K (at K t g sh w p) (end-turn g) (refused NoStoppingPoint) (at K t g sh w p)) (sym opened)
+          (refuse K (now w) (end-turn g) 2 NoStoppingPoint (right w, (or-from _ _ (not-from-true _ (eq-eqb _ _ full)) (not-from-true _ (eq-eqb _ _ costs)), (not-from-false _ off, refl))))
+
+      -- the turn is ended: the item leaves, or what is left takes its place
+      pub ends : may-stop K (lanes sh leaf) done ≡ true → (held : T → Held) (u : Tree T I) → Closes held t leaf done (eqb done cost) u → (sh′ : Shelf I) → room sh′ ≡ room sh → lanes sh′ ≡ put (lanes sh) leaf (rules.settled K (lanes sh leaf) done) → (w : ℕ) →
+          Step K (state-of t sh w) (end-turn g) (closed done) (state-of u sh′ w)
+      ends stops held u c sh′ rooms lane w = subst (λ p. Step K (at K t g sh w p) (end-turn g) (closed done) (state-of u sh′ w)) (sym opened)
+          (subst (Step K (now w) (end-turn g) (closed done)) (sym (closes-to held t u leaf done (eqb done cost) c some sh sh′ cost w (put (queued (shape-of (t .table)) (t .queue .loads)) leaf (cond (eqb done cost) (counts - 1) counts)) (λ _. refl) rooms _ lane))
+          (accept K (now w) (end-turn g) 0 (names K t g leaf cost done opened is-own sh w, record { full = full; cost = costs; stops = stops }) (omega arith)))

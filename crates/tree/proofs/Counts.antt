@@ -51,9 +51,9 @@ module _ (t : Shape) (ls : List Load) where
         let (u, some) = some-cond (under t k l) (queued t ls l) q in
         any-decides (λ l. under t k l && ltb 0 (queued t ls l)) (t .count) .1 (l, lt, and-from _ _ u (lt-ltb _ _ some)))
 
-    -- what counts an item is a class of the tree
-    pub backlog-known : Sound t → (k : ℕ) → 0 < load ls k .backlog → k < t .count
-    backlog-known ok k p = busy-known ok (queued t ls) k (busy-backlog k ∙ lt-ltb _ _ p)
+    -- a lane that has items is that of a class of the tree
+    pub queue-known : Sound t → (l : ℕ) → 0 < queued t ls l → l < t .count
+    queue-known ok l p = busy-known ok (queued t ls) l (busy-backlog l ∙ lt-ltb _ _ (some-cond (leaf t l) (load ls l .backlog) p .1))
 
     -- a class counts at least what is in a lane below it
     pub queued-low : (k c : ℕ) → c < t .count → under t k c ≡ true → queued t ls c ≤ load ls k .backlog

@@ -1,32 +1,44 @@
 -- A turn begins: what the walk makes of the loads is what the rules say of a dispatch. Assumes nothing.
 use mathlib.Core.Path.{_≡_, refl, sym, ap, subst, _∙_, fun-ext}
-use mathlib.Core.Logic.{inl, inr}
+use mathlib.Core.Logic.{_⊎_, inl, inr, ⊎-elim}
 use mathlib.Core.Bool.{Bool, true, false, cond, not, _&&_}
 use mathlib.Core.List.{List}
 use Prim.Native.Nat.{ℕ, _+_, _<_, _≤_}
 use native.Mathlib.Omega.{arith}
-use lib.Dec.{eqb, ltb}
+use lib.Dec.{eqb, ltb, leb}
+use lib.ListN.{length}
 use Rattle.std.specs.declared.option.Option.{Option}
 use Rattle.std.specs.declared.option.Option.the-variants.{Some, None}
-use Rattle.std.proofs.shelf.Tests.{cases-bool, cond-true, cond-false, and-left, and-from, and-parts, not-from-true, not-from-false, not-true, eq-eqb, ne-eqb, eqb-false, both-ways}
+use Rattle.std.proofs.shelf.Tests.{cases-bool, cond-true, cond-false, and-left, and-from, and-parts, or-left, or-right, not-from-true, not-from-false, not-true, lt-ltb, le-leb, eq-eqb, eqb-false, both-ways}
+use Rattle.base.specs.declared.refusal.Refusal.the-variants.{TurnOpen, NothingBacklogged, LaneMismatch, LimitReached}
+use Rattle.classes.specs.Tables.{shape-of, weight-of}
+use Rattle.classes.proofs.Tables.{shape-sound}
 use Rattle.rules.specs.Kind.{Kind}
 use Rattle.rules.specs.Shape.{Shape, Sound, under, leaf}
-use Rattle.rules.specs.State.{State, sum, backlogged, next, picked}
-use Rattle.rules.specs.Rules.{dispatch, head-cost, effect}
+use Rattle.rules.specs.State.{State, sum, is-open, backlogged, next, picked, mismatch}
+use Rattle.rules.specs.Rules.{dispatch, refused, granted, head-cost, effect, Step}
 use Rattle.rules.specs.Laws.{Within}
+use Rattle.rules.proofs.Calls.{accept, refuse}
+use Rattle.rules.proofs.Tests.{not-some, some-same}
 use Rattle.rules.proofs.Tree.{under-below, below-under, below-le, on-the-way, child-decides, leaf-alone}
 use Rattle.rules.proofs.Picks.{Way, picks}
+use Rattle.shelf.specs.Chains.{first}
+use Rattle.shelf.specs.Lanes.{lanes, room}
+use Rattle.shelf.specs.declared.shelf.Shelf.{Shelf}
 use Rattle.tags.specs.Held.{Held}
 use Rattle.tree.specs.Counts.{queued, waiting, Counted}
 use Rattle.tree.specs.Loads.{load, stocked, Stocked}
-use Rattle.tree.specs.Walks.{Advanced}
+use Rattle.tree.specs.Walks.{pick, Advanced}
 use Rattle.tree.specs.Turns.{turn}
 use Rattle.tree.specs.States.{tags, state}
+use Rattle.tree.specs.Trees.{state-of, InStep}
 use Rattle.tree.specs.declared.load.Load.{Load}
 use Rattle.tree.specs.declared.phase.Phase.{Phase}
-use Rattle.tree.specs.declared.phase.Phase.the-variants.{Open}
+use Rattle.tree.specs.declared.phase.Phase.the-variants.{Free, Open}
+use Rattle.tree.specs.declared.tree.Tree.{Tree}
 use Rattle.tree.proofs.Counts.{leaves, busy-backlog}
-use Rattle.tree.proofs.Picks.{pair-of}
+use Rattle.tree.proofs.Picks.{pair-of, pick-is}
+use Rattle.tree.proofs.Shelves.{unread, head-full, head-read}
 
 module _ (t : Shape) (ls ms : List Load) (c : ℕ) (moved : Advanced t c ls ms) where
   -- the counts stay
@@ -118,3 +130,82 @@ module _ {I : Type 0} (house : ℕ) (t : Shape) (w : ℕ → ℕ) (ls : List Loa
       turns = turns + 1;
       phase = turn (Open (picked s) (head-cost K (lane (picked s))) 0);
     }
+
+-- a dispatch of a tree with a shelf
+module _ {T I : Type 0} (K : Kind I) (t : Tree T I) (sh : Shelf I) where
+  abbrev shape : Shape
+  shape = shape-of (t .table)
+
+  abbrev ls : List Load
+  ls = t .queue .loads
+
+  abbrev now : ℕ → State I
+  now w = state-of t sh w
+
+  -- a turn is open already
+  pub open-already : is-open (turn (t .phase)) ≡ true → (w : ℕ) → Step K (now w) dispatch (refused TurnOpen) (now w)
+  open-already e w = refuse K (now w) dispatch 0 TurnOpen (e, refl)
+
+  module _ (held : T → Held) (free : t .phase ≡ Free) (ins : InStep held t) where
+    abbrev choice : Option ℕ
+    choice = pick (held (t .queue .store)) (leaf shape 0) (load ls 0 .backlog)
+
+    is-free : (w : ℕ) → is-open (now w .phase) ≡ false
+    is-free w = ap (λ p. is-open (turn p)) free
+
+    choice-is : (w : ℕ) → choice ≡ cond (backlogged (now w) 0) (Some (picked (now w))) None
+    choice-is w = pick-is (now w) (shape-sound (t .table)) (leaves shape ls) (held (t .queue .store))
+        (stocked-stands (t .house) shape (weight-of (t .table)) ls (t .phase) (t .meter .0) (t .turns) (room sh) (lanes sh) w (shape-sound (t .table)) (t .counted) (held (t .queue .store)) ins)
+        (load ls 0 .backlog) (sym (busy-backlog shape ls (t .counted) 0))
+
+    -- nothing is backlogged
+    pub none-waits : None ≡ choice → (w : ℕ) → Step K (now w) dispatch (refused NothingBacklogged) (now w)
+    none-waits none w = elim (cases-bool (backlogged (now w) 0)) [
+      | inl busy ↦ absurd (not-some (none ∙ choice-is w ∙ cond-true (backlogged (now w) 0) (Some (picked (now w))) None busy))
+      | inr idle ↦ refuse K (now w) dispatch 1 NothingBacklogged (is-free w, (not-from-false _ idle, refl))
+    ]
+
+    module _ (r : ℕ) (to : Some r ≡ choice) where
+      -- the leaf is the one that the rules pick
+      comes : (w : ℕ) → (backlogged (now w) 0 ≡ true) × (r ≡ picked (now w))
+      comes w = elim (cases-bool (backlogged (now w) 0)) [
+        | inl busy ↦ (busy, some-same (to ∙ choice-is w ∙ cond-true (backlogged (now w) 0) (Some (picked (now w))) None busy))
+        | inr idle ↦ absurd (not-some (sym (to ∙ choice-is w ∙ cond-false (backlogged (now w) 0) (Some (picked (now w))) None idle)))
+      ]
+
+      some-items : (w : ℕ) → 0 < queued shape ls r
+      some-items w = let (busy, is) = comes w in subst (λ r. 0 < queued shape ls r) (sym is) (picks (now w) (shape-sound (t .table)) (leaves shape ls) busy .1)
+
+      -- its lane is not as long as counted
+      pub unmatched : None ≡ cond (eqb (length (lanes sh r)) (queued shape ls r)) (first (lanes sh r)) None → (w : ℕ) → Step K (now w) dispatch (refused LaneMismatch) (now w)
+      unmatched none w =
+          let (busy, is) = comes w in
+          refuse K (now w) dispatch 2 LaneMismatch (is-free w, (not-from-true _ busy, (ap (mismatch (now w)) (sym is) ∙ not-from-false _ (unread (lanes sh r) (queued shape ls r) (some-items w) none), refl)))
+
+      module _ (x : I) (head : Some x ≡ cond (eqb (length (lanes sh r)) (queued shape ls r)) (first (lanes sh r)) None) where
+        full : length (lanes sh r) ≡ queued shape ls r
+        full = head-full (lanes sh r) (queued shape ls r) x head .0
+
+        price : (w : ℕ) → K .costs x ≡ head-cost K (lanes sh (picked (now w)))
+        price w = sym (head-read K x (lanes sh r) (head-full (lanes sh r) (queued shape ls r) x head .1) .0) ∙ ap (λ r. head-cost K (lanes sh r)) (comes w .1)
+
+        -- the meter or the turns are used up
+        pub used-up : (1000000000000 < t .meter .0 + K .costs x) ⊎ (1000000000000 < t .turns + 1) → (w : ℕ) → Step K (now w) dispatch (refused LimitReached) (now w)
+        used-up past w =
+            let (busy, is) = comes w in
+            let matched = ap (mismatch (now w)) (sym is) ∙ not-from-true _ (eq-eqb _ _ full) in
+            let over = ⊎-elim
+            (λ l. or-left _ _ (lt-ltb _ _ (subst (λ c. 1000000000000 < t .meter .0 + c) (price w) l)))
+            (λ l. or-right (ltb 1000000000000 (t .meter .0 + head-cost K (lanes sh (picked (now w))))) _ (le-leb _ _ (omega arith))) past in
+            refuse K (now w) dispatch 3 LimitReached (is-free w, (not-from-true _ busy, (matched, (over, refl))))
+
+        -- the turn begins
+        pub goes : t .meter .0 + K .costs x ≤ 1000000000000 → t .turns < 1000000000000 → (ms : List Load) → Advanced shape r ls ms → (w : ℕ) →
+            Step K (now w) dispatch (granted (record { house = t .house; turn = t .turns + 1 }) r (K .costs x)) (state (t .house) shape (weight-of (t .table)) ms (Open r (K .costs x) 0) (t .meter .0) (t .turns + 1) (room sh) (lanes sh) w)
+        goes low few ms moved w =
+            let (busy, is) = comes w in
+            let Goes : ℕ → ℕ → Type 0 = λ r c. Step K (now w) dispatch (granted (record { house = t .house; turn = t .turns + 1 }) r c) (state (t .house) shape (weight-of (t .table)) ms (Open r c 0) (t .meter .0) (t .turns + 1) (room sh) (lanes sh) w) in
+            let made = accept K (now w) dispatch 0 (record { free = ap turn free; busy = busy; full = subst (λ r. length (lanes sh r) ≡ queued shape ls r) is full; meter = subst (λ c. t .meter .0 + c ≤ 1000000000000) (price w) low; turns = few }) (omega arith) in
+            let left = dispatch-leaves (t .house) shape (weight-of (t .table)) ls (t .phase) (t .meter .0) (t .turns) (room sh) (lanes sh) w (shape-sound (t .table)) (t .counted) busy ms (subst (λ r. Advanced shape r ls ms) is moved) K in
+            subst (λ r. Goes r (K .costs x)) (sym is) (subst (Goes (picked (now w))) (sym (price w))
+            (subst (Step K (now w) dispatch (granted (record { house = t .house; turn = t .turns + 1 }) (picked (now w)) (head-cost K (lanes sh (picked (now w)))))) (sym left) made))

@@ -6,8 +6,11 @@ pub mod Resting
 pub mod Advancing
 pub mod Descending
 pub mod Sums
+pub mod Shelves
 pub mod Counts
 pub mod Submissions
 pub mod Picks
 pub mod Dispatches
+pub mod Grants
 pub mod Closings
+pub mod Openings

@@ -3,3 +3,7 @@ pub mod Walks
 pub mod Turns
 pub mod Counts
 pub mod States
+pub mod Trees
+pub mod Answers
+pub mod Draws
+pub mod Closings

@@ -1,10 +1,14 @@
 //! A class tree over any tag store, for items of one kind.
 ghost use mathlib.Core.Path.{_≡_};
+ghost use mathlib.Core.Bool.{true};
 ghost use Prim.Native.Nat.{ℕ, _+_, _*_, _≤_, _<_};
 ghost use Rattle.classes.specs.Tables.{shape-of};
+ghost use Rattle.rules.specs.Laws.{Within};
+ghost use Rattle.rules.specs.State.{is-open};
+ghost use Rattle.tree.specs.Counts.{queued, Counted};
 ghost use Rattle.tree.specs.Loads.{load};
-ghost use Rattle.tree.specs.Counts.{queued, waiting};
-ghost use Rattle.tree.specs.Turns.{leaf-of, cost-of, done-of};
+ghost use Rattle.tree.specs.States.{tags};
+ghost use Rattle.tree.specs.Turns.{turn, serving};
 use crate::phase::Phase;
 use crate::queue::Queue;
 use base::units::Units;
@@ -18,8 +22,11 @@ pub mod closing;
 pub mod opening;
 pub mod reading;
 
-/// A tree as opening leaves it and the five calls keep it. No tree exists with a tag above 720,720 times its meter, or a weight outside 1 to
-/// 16 (each class has a `Weight`).
+/// A tree as opening leaves it and the five calls keep it. No tree exists with a weight outside 1 to 16 (each class has a `Weight`) or a tag
+/// above 720,720 times its meter.
+///
+/// The store of every tree holds, under each node's number, exactly its backlogged children with their start tags: opening says so, each
+/// call keeps it, and nothing else can alter a tree. No field can say it, since only the store knows what it holds.
 #[derive(Drop)]
 pub struct Tree<T: TagStore, I: Item> {
     house: u32,
@@ -29,11 +36,17 @@ pub struct Tree<T: TagStore, I: Item> {
     meter: Units,
     turns: u64,
     kind: PhantomData<I>,
-    ghost counted: { (k : ℕ) → load (queue .loads) k .backlog ≡ waiting (shape-of table) (queue .loads) k },
+    // the backlog of each class is what waits in the lanes at and below it, and no lane has more items than a shelf has places
+    ghost counted: { Counted (shape-of table) (queue .loads) },
     ghost few: { (k : ℕ) → queued (shape-of table) (queue .loads) k ≤ 256 },
+    // no tag passes the limit, the root starts at 0, and numbers that no class has are not charged
+    ghost tagged: { Within (tags (queue .loads)) (720720 * meter .0) },
+    ghost rooted: { load (queue .loads) 0 .start .0 ≡ 0 },
     ghost unused: { (k : ℕ) → table .len ≤ k → load (queue .loads) k .finish .0 ≡ 0 },
-    ghost tagged: { (k : ℕ) → (load (queue .loads) k .start .0 ≤ 720720 * meter .0) × (load (queue .loads) k .finish .0 ≤ 720720 * meter .0) × (load (queue .loads) k .vtime .0 ≤ 720720 * meter .0) },
-    ghost served: { (leaf-of phase < table .len) × (done-of phase ≤ cost-of phase) × (meter .0 + cost-of phase ≤ 1000000000000) },
+    // an open turn serves a leaf that has items, and its cost fits into the meter
+    ghost served: { is-open (turn phase) ≡ true → 0 < queued (shape-of table) (queue .loads) (serving phase .leaf) },
+    ghost within: { serving phase .done ≤ serving phase .cost },
+    ghost metered: { meter .0 + serving phase .cost ≤ 1000000000000 },
     ghost given: { turns ≤ 1000000000000 },
 }
 
