@@ -3,5 +3,4 @@ pub mod Writes
 pub mod Waking
 pub mod Settling
 pub mod Resting
-pub mod Advancing
 pub mod Descending

@@ -1,5 +1,5 @@
 -- Waking one class after another wakes them all.
-use mathlib.Core.Path.{_≡_, refl, sym, ap, subst, _∙_}
+use mathlib.Core.Path.{_≡_, refl, sym, ap, _∙_}
 use mathlib.Core.Logic.{inl, inr}
 use mathlib.Core.Bool.{Bool, true, false, cond, _&&_, _||_}
 use mathlib.Core.List.{List}
@@ -14,7 +14,7 @@ use Rattle.rules.specs.Shape.{Shape, Sound, under}
 use Rattle.tree.specs.Loads.{load}
 use Rattle.tree.specs.Walks.{wakes, woken, woken-held}
 use Rattle.tree.specs.declared.load.Load.{Load}
-use Rattle.tree.proofs.Paths.{above, came, came-none, came-here, came-more, path-next, path-more, under-self, OnPath}
+use Rattle.tree.proofs.Paths.{above, came, Walked, walk-none, walk-all, walk-more, next-new}
 
 -- the loads ms and the store h′ are what the loads ls and the store h are once the marked classes are awake
 pub record Woke (t : Shape) (ls ms : List Load) (h h′ : Held) (on : ℕ → Bool) : Type 0 where
@@ -87,36 +87,34 @@ module _ (t : Shape) where
     ]
 
   -- at first no class is marked
-  pub woke-none : (ls : List Load) (h : Held) (on : ℕ → Bool) → ((k : ℕ) → on k ≡ false) → Woke t ls ls h h on
-  woke-none ls h on off = record { loads = λ k. sym (woken-off ls on k (off k)); held = λ k. sym (woken-held-off ls on h k (off k)) }
+  pub woke-none : (ls : List Load) (h : Held) → Woke t ls ls h h (λ _. false)
+  woke-none ls h = record { loads = λ k. sym (woken-off ls (λ _. false) k refl); held = λ k. sym (woken-held-off ls (λ _. false) h k refl) }
 
   -- then one more
-  pub woke-more : (ls ms ns : List Load) (h h′ h″ : Held) (on off : ℕ → Bool) (c : ℕ) → Woke t ls ms h h′ on → on c ≡ false → Woke t ms ns h′ h″ (eqb c) → ((k : ℕ) → off k ≡ (on k || eqb c k)) → Woke t ls ns h h″ off
-  woke-more ls ms ns h h′ h″ on off c was new more alike = record {
-    loads = λ k. more .loads k ∙ woken-more ls ms on (was .loads) c new k ∙ woken-alike ls (λ j. on j || eqb c j) off k (sym (alike k));
-    held = λ k. more .held k ∙ woken-held-more ls ms on (was .loads) c new h h′ (was .held) k ∙ woken-held-alike ls (λ j. on j || eqb c j) off h k (sym (alike k));
+  pub woke-more : (ls ms ns : List Load) (h h′ h″ : Held) (on : ℕ → Bool) (c : ℕ) → Woke t ls ms h h′ on → on c ≡ false → Woke t ms ns h′ h″ (eqb c) → Woke t ls ns h h″ (λ j. on j || eqb c j)
+  woke-more ls ms ns h h′ h″ on c was new more = record {
+    loads = λ k. more .loads k ∙ woken-more ls ms on (was .loads) c new k;
+    held = λ k. more .held k ∙ woken-held-more ls ms on (was .loads) c new h h′ (was .held) k;
   }
 
   -- along a path
-  module _ (ok : Sound t) (leaf : ℕ) (known : leaf < t .count) where
-    abbrev pub Waking : List Load → Held → Option ℕ → List Load → Held → Type 0
-    Waking ls h next ms h′ = OnPath t leaf next × Woke t ls ms h h′ (came t leaf next)
+  module _ (ok : Sound t) (leaf : ℕ) (known : leaf < t .count) (ls : List Load) (h : Held) where
+    abbrev pub Waking : List Load → Held → Option ℕ → Type 0
+    Waking ms h′ next = Walked t leaf (Woke t ls ms h h′) next
 
-    pub waking-none : (ls : List Load) (h : Held) → Waking ls h (Some leaf) ls h
-    waking-none ls h = (under-self ok known, woke-none ls h (came t leaf (Some leaf)) (came-none ok leaf known))
+    pub waking-none : Waking ls h (Some leaf)
+    waking-none = walk-none ok leaf known (Woke t ls ls h h) (woke-none ls h)
 
-    pub waking-more : (ls ms ns : List Load) (h h′ h″ : Held) (next next′ : Option ℕ) (c : ℕ) → next ≡ Some c → next′ ≡ above t c → Waking ls h next ms h′ → Woke t ms ns h′ h″ (eqb c) → Waking ls h next′ ns h″
-    waking-more ls ms ns h h′ h″ next next′ c is step (on, was) more =
-        let u = path-next ok leaf known next c is on in
-        let now : Woke t ls ms h h′ (came t leaf (Some c)) = subst (λ o. Woke t ls ms h h′ (came t leaf o)) is was in
-        subst (λ o. Waking ls h o ns h″) (sym step)
-        (path-more ok leaf known c u, woke-more ls ms ns h h′ h″ (came t leaf (Some c)) (came t leaf (above t c)) c now (came-here ok leaf known c u) more (came-more ok leaf known c u))
+    pub waking-all : (ms : List Load) (h′ : Held) (next : Option ℕ) → next ≡ None → Waking ms h′ next → Woke t ls ms h h′ (λ j. under t j leaf)
+    waking-all ms h′ next is was = walk-all ok leaf known (Woke t ls ms h h′) next is was
 
-    -- the next class is as it was
-    pub waking-here : (ls ms : List Load) (h h′ : Held) (next : Option ℕ) (c : ℕ) → next ≡ Some c → Waking ls h next ms h′ → load ms c ≡ load ls c
-    waking-here ls ms h h′ next c is (on, was) =
-        was .loads c ∙ woken-off ls (came t leaf next) c (ap (λ o. came t leaf o c) is ∙ came-here ok leaf known c (path-next ok leaf known next c is on))
+    module _ (ms : List Load) (h′ : Held) (next : Option ℕ) (c : ℕ) (is : next ≡ Some c) (was : Waking ms h′ next) where
+      new : came t leaf next c ≡ false
+      new = next-new ok leaf known next c is (was .0) .0
 
-    -- past the root all of the path are awake
-    pub waking-all : (ls ms : List Load) (h h′ : Held) (next : Option ℕ) → next ≡ None → Waking ls h next ms h′ → Woke t ls ms h h′ (λ j. under t j leaf)
-    waking-all ls ms h h′ next is (on, was) = subst (λ o. Woke t ls ms h h′ (came t leaf o)) is was
+      -- the next class is as it was
+      pub waking-here : load ms c ≡ load ls c
+      waking-here = was .1 .loads c ∙ woken-off ls (came t leaf next) c new
+
+      pub waking-more : (ns : List Load) (h″ : Held) (next′ : Option ℕ) → next′ ≡ above t c → Woke t ms ns h′ h″ (eqb c) → Waking ns h″ next′
+      waking-more ns h″ next′ e more = walk-more ok leaf known next c is (was .0) (Woke t ls ns h h″) next′ e (woke-more ls ms ns h h′ h″ (came t leaf next) c (was .1) new more)

@@ -96,10 +96,12 @@ impl<T: TagStore> Queue<T> {
         ensures held { λ _. ⌜ ((k : ℕ) → T·TagStore .held (now (self .exit) .store) k ≡ cond (ltb 0 k && eqb class k) (stocked (shape-of (now (table .entry))) (now (self .exit) .loads) k) (T·TagStore .held (now (self .entry) .store) k)) ⌝ }
     {
         self.charge_class(table, class, done, gone);
-        if self.loads[class as usize].backlog == 0 {
-            self.rest(table, class);
+        let above = table.parent(class);
+        if self.loads[class as usize].backlog > 0 {
+            return above;
         }
-        table.parent(class)
+        self.rest(table, class);
+        above
     }
 
     /// Counts the item that is gone, and charges the class if it is not the root: it leaves the store, and where it is still backlogged it
@@ -134,14 +136,14 @@ impl<T: TagStore> Queue<T> {
         ensures loads { λ _. ⌜ ((k : ℕ) → load (now (self .exit) .loads) k ≡ rested (shape-of (now (table .entry))) (now (self .entry) .loads) node k) ⌝ }
         ensures store { λ _. ⌜ now (self .exit) .store ≡ now (self .entry) .store ⌝ }
     {
-        let load = self.loads[node as usize];
-        self.loads[node as usize] = Load { vtime: Parts::ZERO, ..load };
         let mut next = table.first_child(node);
         while let Some(child) = next {
             let load = self.loads[child as usize];
             self.loads[child as usize] = Load { finish: Parts::ZERO, ..load };
             next = table.next_sibling(child);
         }
+        let load = self.loads[node as usize];
+        self.loads[node as usize] = Load { vtime: Parts::ZERO, ..load };
     }
 }
 
