@@ -4,3 +4,5 @@ pub mod Waking
 pub mod Settling
 pub mod Resting
 pub mod Descending
+pub mod Advancing
+pub mod Charging

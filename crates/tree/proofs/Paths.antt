@@ -8,14 +8,26 @@ use lib.Dec.{eqb, ltb}
 use Rattle.std.specs.declared.option.Option.{Option}
 use Rattle.std.specs.declared.option.Option.the-variants.{Some, None}
 use Rattle.std.specs.Options.{Cases}
-use Rattle.std.proofs.shelf.Tests.{cases-eq, eq-eqb, ne-eqb, eqb-true, lt-ltb, or-cases, or-left, or-right, and-left}
+use Rattle.std.proofs.shelf.Tests.{and-from, and-parts, cases-bool, cases-eq, ltb-true, eq-eqb, ne-eqb, eqb-true, lt-ltb, or-cases, or-left, or-right, and-left}
 use Rattle.rules.specs.Shape.{Shape, Sound, under}
-use Rattle.rules.proofs.Tests.{no-test, same-test}
+use Rattle.rules.proofs.Tests.{no-test, not-some, same-test, some-same}
 use Rattle.rules.proofs.Tree.{Below, here, up, below-le, below-under, under-below, under-le, under-parent, under-root}
 
 -- the node above class c: none for the root and for a number that no class has
 abbrev pub above : Shape → ℕ → Option ℕ
 above t c = cond (ltb 0 c && ltb c (t .count)) (Some (t .parent c)) None
+
+pub above-some : (t : Shape) (c node : ℕ) → Some node ≡ above t c → (0 < c) × (c < t .count) × (t .parent c ≡ node)
+above-some t c node e = elim (cases-bool (ltb 0 c && ltb c (t .count))) [
+  | inl y ↦ let (pos, lt) = and-parts (ltb 0 c) (ltb c (t .count)) y in (ltb-true 0 c pos, ltb-true c (t .count) lt, some-same (sym (e ∙ ap (λ b. cond b (Some (t .parent c)) None) y)))
+  | inr n ↦ absurd (not-some (sym (e ∙ ap (λ b. cond b (Some (t .parent c)) None) n)))
+]
+
+pub above-none : (t : Shape) (c : ℕ) → None ≡ above t c → c < t .count → c ≡ 0
+above-none t c e lt = elim (cases-eq c 0) [
+  | inl z ↦ z
+  | inr z ↦ absurd (not-some (e ∙ ap (λ b. cond b (Some (t .parent c)) None) (and-from (ltb 0 c) (ltb c (t .count)) (lt-ltb 0 c (omega arith)) (lt-ltb c (t .count) lt))))
+]
 
 -- the classes that a walk up from the leaf has come by, where `next` is the next one, or none once it is past the root
 abbrev pub came : Shape → ℕ → Option ℕ → ℕ → Bool

@@ -24,16 +24,16 @@ pub record Settled (t : Shape) (w : ℕ → ℕ) (d : ℕ) (gone : Bool) (ls ms 
   pub held : (k : ℕ) → h′ k ≡ cond (ltb 0 k && on k) (stocked t ms k) (h k)
 
 -- the load l of a class that is marked where `o`
-abbrev less : Bool → Bool → Load → ℕ
+abbrev pub less : Bool → Bool → Load → ℕ
 less o gone l = cond (o && gone) (l .backlog - 1) (l .backlog)
 
-abbrev idle : Bool → Bool → Load → Bool
+abbrev pub idle : Bool → Bool → Load → Bool
 idle o gone l = o && not (ltb 0 (less o gone l))
 
-abbrev reach : Bool → Bool → Load → ℕ → ℕ
+abbrev pub reach : Bool → Bool → Load → ℕ → ℕ
 reach pos o l charge = cond (pos && o) (l .start .0 + charge) (l .finish .0)
 
-abbrev restart : Bool → Bool → Bool → Load → ℕ → ℕ → ℕ
+abbrev pub restart : Bool → Bool → Bool → Load → ℕ → ℕ → ℕ
 restart pos o gone l charge v = cond (pos && o && ltb 0 (less o gone l)) (max v (reach pos o l charge)) (l .start .0)
 
 -- it is not the root where `pos`, its node has the virtual time v, and rests where `r`
@@ -45,11 +45,11 @@ settle pos o gone l charge v r = record {
   vtime = record { 0 = cond (idle o gone l) 0 (l .vtime .0) };
 }
 
-middle : (a b : Bool) → (a && false && b) ≡ false
+pub middle : (a b : Bool) → (a && false && b) ≡ false
 middle true b = refl
 middle false b = refl
 
-last : (a : Bool) → (a && false) ≡ false
+pub last : (a : Bool) → (a && false) ≡ false
 last true = refl
 last false = refl
 

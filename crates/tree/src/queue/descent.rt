@@ -38,8 +38,10 @@ impl<T: TagStore> Queue<T> {
             }
             return Some(0);
         }
-        let (child, _) = self.store.least(0)?;
-        Some(self.descend(child))
+        match self.store.least(0) {
+            Some((child, _)) => Some(self.descend(child)),
+            None => None,
+        }
     }
 
     /// As far down from a node as the store leads.
