@@ -1,7 +1,7 @@
 -- The virtual times on a path are set one after another, from the leaf up.
 use mathlib.Core.Path.{_≡_, refl, sym, ap, subst, _∙_}
 use mathlib.Core.Logic.{inl, inr}
-use mathlib.Core.Bool.{Bool, true, false, cond, not, _&&_, _||_}
+use mathlib.Core.Bool.{true, false, cond, not, _&&_, _||_}
 use mathlib.Core.List.{List}
 use Prim.Native.Nat.{ℕ, _<_, _≤_}
 use native.Mathlib.Omega.{arith}
@@ -15,7 +15,7 @@ use Rattle.base.specs.declared.units.Parts.{Parts}
 use Rattle.tree.specs.Loads.{load}
 use Rattle.tree.specs.Walks.{Advanced}
 use Rattle.tree.specs.declared.load.Load.{Load}
-use Rattle.tree.proofs.Paths.{above, above-none, above-some, path-known, under-not, under-self, under-step, under-zero}
+use Rattle.tree.proofs.Paths.{above, above-none, above-some, path-known, under-self, under-step, under-zero}
 use Rattle.tree.proofs.Writes.{written}
 
 -- the nodes above the classes of the path that come before c have their virtual times
@@ -65,25 +65,27 @@ module _ {t : Shape} (ok : Sound t) (leaf : ℕ) (known : leaf < t .count) (ls :
             path = under-parent ok c leaf known (was .path);
             same = λ k. let (b, s, f) = was .same k in (ap (λ l. l .backlog) (wrote k) ∙ b, ap (λ l. l .start) (wrote k) ∙ s, ap (λ l. l .finish) (wrote k) ∙ f);
             on = λ k some u n. elim (cases-eq k c) [
-              | inl e ↦
-                (omega (arith, ap (t .parent) e),
+              | inl e ↦ (
+                omega (arith, ap (t .parent) e),
                 ap (λ l. l .vtime) (wrote (t .parent k))
-                ∙ ap (λ b. cond b (load ms c .start) (load ms (t .parent k) .vtime)) (eq-eqb (t .parent c) (t .parent k) (ap (t .parent) (sym e)))
-                ∙ was .same c .1 ∙ ap (λ j. load ls j .start) (sym e))
+                    ∙ ap (λ b. cond b (load ms c .start) (load ms (t .parent k) .vtime)) (eq-eqb (t .parent c) (t .parent k) (ap (t .parent) (sym e)))
+                    ∙ was .same c .1 ∙ ap (λ j. load ls j .start) (sym e),
+              )
               | inr e ↦
-                let off : under t k c ≡ false = under-step ok k pos advancing-known ∙ ap (λ b. b || under t k (t .parent c)) (ne-eqb k c e) ∙ n in
-                let (high, time) = was .on k some u off in
-                (omega arith,
-                ap (λ l. l .vtime) (wrote (t .parent k))
-                ∙ ap (λ b. cond b (load ms c .start) (load ms (t .parent k) .vtime)) (ne-eqb (t .parent c) (t .parent k) (λ z. omega arith))
-                ∙ time)
+                  let off : under t k c ≡ false = under-step ok k pos advancing-known ∙ ap (λ b. b || under t k (t .parent c)) (ne-eqb k c e) ∙ n in
+                  let (high, time) = was .on k some u off in (
+                    omega arith,
+                    ap (λ l. l .vtime) (wrote (t .parent k))
+                        ∙ ap (λ b. cond b (load ms c .start) (load ms (t .parent k) .vtime)) (ne-eqb (t .parent c) (t .parent k) (λ z. omega arith))
+                        ∙ time,
+                  )
             ];
             off = λ k e. elim (cases-eq (t .parent c) k) [
               | inl z ↦
-                let above : under t k leaf ≡ true = sym (ap (λ j. under t j leaf) z) ∙ under-parent ok c leaf known (was .path) in
-                let le = under-le ok c leaf (was .path) in
-                let apart : (under t k leaf && not (eqb k leaf)) ≡ true = rw (above, ne-eqb k leaf (λ y. omega arith)) refl in
-                absurd (both-ways (under t k leaf && not (eqb k leaf)) e apart)
+                  let above : under t k leaf ≡ true = sym (ap (λ j. under t j leaf) z) ∙ under-parent ok c leaf known (was .path) in
+                  let le = under-le ok c leaf (was .path) in
+                  let apart : (under t k leaf && not (eqb k leaf)) ≡ true = rw (above, ne-eqb k leaf (λ y. omega arith)) refl in
+                  absurd (both-ways (under t k leaf && not (eqb k leaf)) e apart)
               | inr z ↦ ap (λ l. l .vtime) (wrote k) ∙ ap (λ b. cond b (load ms c .start) (load ms k .vtime)) (ne-eqb (t .parent c) k z) ∙ was .off k e
             ];
           }

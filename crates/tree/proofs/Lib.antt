@@ -1,3 +1,4 @@
+pub mod Marks
 pub mod Paths
 pub mod Writes
 pub mod Waking

@@ -1,8 +1,8 @@
 -- The way up from a class to the root, by the test `under`.
 use mathlib.Core.Path.{_≡_, refl, sym, ap, subst, _∙_, fun-ext}
 use mathlib.Core.Logic.{inl, inr}
-use mathlib.Core.Bool.{Bool, true, false, cond, not, _&&_, _||_}
-use Prim.Native.Nat.{ℕ, suc, _<_, _≤_}
+use mathlib.Core.Bool.{Bool, true, false, cond, not, _&&_, _||_, and-true, or-false}
+use Prim.Native.Nat.{ℕ, suc, _<_}
 use native.Mathlib.Omega.{arith}
 use lib.Dec.{eqb, ltb}
 use Rattle.std.specs.declared.option.Option.{Option}
@@ -11,7 +11,7 @@ use Rattle.std.specs.Options.{Cases}
 use Rattle.std.proofs.shelf.Tests.{and-from, and-parts, cases-bool, cases-eq, ltb-true, eq-eqb, ne-eqb, eqb-true, lt-ltb, or-cases, or-left, or-right, and-left}
 use Rattle.rules.specs.Shape.{Shape, Sound, under}
 use Rattle.rules.proofs.Tests.{no-test, not-some, same-test, some-same}
-use Rattle.rules.proofs.Tree.{Below, here, up, below-le, below-under, under-below, under-le, under-parent, under-root}
+use Rattle.rules.proofs.Tree.{Below, here, up, below-under, under-below, under-le, under-parent, under-root}
 
 -- the node above class c: none for the root and for a number that no class has
 abbrev pub above : Shape → ℕ → Option ℕ
@@ -50,14 +50,6 @@ Walked t leaf R next = OnPath t leaf next × R (came t leaf next)
 none-yet : (b : Bool) → (b && not b) ≡ false
 none-yet true = refl
 none-yet false = refl
-
-and-true : (b : Bool) → (b && true) ≡ b
-and-true true = refl
-and-true false = refl
-
-or-false : (b : Bool) → (b || false) ≡ b
-or-false true = refl
-or-false false = refl
 
 and-not : (a b : Bool) → b ≡ true → (a && not b) ≡ false
 and-not true b e = ap not e
@@ -111,11 +103,11 @@ module _ {t : Shape} (ok : Sound t) where
     step-some : (c : ℕ) → 0 < c → under t c leaf ≡ true → (j : ℕ) → came t leaf (Some (t .parent c)) j ≡ (came t leaf (Some c) j || eqb c j)
     step-some c pos u j = elim (cases-eq c j) [
       | inl e ↦
-        let off : under t j (t .parent c) ≡ false = under-not j (t .parent c) (omega (arith, ok .earlier c pos)) in
-        rw (off, sym (ap (λ k. under t k leaf) e) ∙ u) (sym (or-right _ _ (eq-eqb c j e)))
+          let off : under t j (t .parent c) ≡ false = under-not j (t .parent c) (omega (arith, ok .earlier c pos)) in
+          rw (off, sym (ap (λ k. under t k leaf) e) ∙ u) (sym (or-right _ _ (eq-eqb c j e)))
       | inr e ↦
-        let same : under t j c ≡ under t j (t .parent c) = under-step j pos (path-known u) ∙ ap (λ b. b || under t j (t .parent c)) (ne-eqb j c (λ z. e (sym z))) in
-        rw (ne-eqb c j e, same) (sym (or-false _))
+          let same : under t j c ≡ under t j (t .parent c) = under-step j pos (path-known u) ∙ ap (λ b. b || under t j (t .parent c)) (ne-eqb j c (λ z. e (sym z))) in
+          rw (ne-eqb c j e, same) (sym (or-false _))
     ]
 
     step-none : (j : ℕ) → came t leaf None j ≡ (came t leaf (Some 0) j || eqb 0 j)

@@ -1,11 +1,11 @@
 -- The finish tags of a node's children are cleared one after another, in the order in which the class table lists them.
 use mathlib.Core.Path.{_≡_, refl, sym, ap, subst, _∙_}
 use mathlib.Core.Logic.{inl, inr}
-use mathlib.Core.Bool.{Bool, true, false, cond, not, _&&_}
+use mathlib.Core.Bool.{Bool, true, false, cond, _&&_, and-true}
 use mathlib.Core.List.{List}
 use Prim.Native.Nat.{ℕ, suc, _<_, _≤_}
 use native.Mathlib.Omega.{arith}
-use lib.Dec.{eqb, leb, ltb}
+use lib.Dec.{leb, ltb}
 use lib.ListN.{length, set}
 use Rattle.std.specs.declared.option.Option.{Option}
 use Rattle.std.specs.declared.option.Option.the-variants.{Some, None}
@@ -30,10 +30,6 @@ pub record Clearing (t : Shape) (node : ℕ) (ls ms : List Load) (next : Option 
   pub few : n ≤ t .count
   pub list : next ≡ child-below t node n
   pub loads : (k : ℕ) → load ms k ≡ cleared (child t node k && leb n k) (load ls k)
-
-and-true : (b : Bool) → (b && true) ≡ b
-and-true true = refl
-and-true false = refl
 
 blank-same : (b : Bool) (x : ℕ) → x ≡ 0 → x ≡ cond b 0 x
 blank-same true x z = z
@@ -95,19 +91,19 @@ module _ {t : Shape} (ok : Sound t) (node : ℕ) (ls : List Load) where
         list = listed next′ e;
         loads = λ k. written ms c x low k ∙ elim (cases-eq c k) [
           | inl z ↦
-            let on : (child t node k && leb c k) ≡ true = rw (sym (ap (child t node) z) ∙ last .1) (le-leb c k (omega arith)) in
-            rw (eq-eqb c k z) (made ∙ ap (λ j. cleared true (load ms j)) z ∙ ap (cleared true) (was .loads k) ∙ (λ i. cleared (sym on i) (load ls k)))
+              let on : (child t node k && leb c k) ≡ true = rw (sym (ap (child t node) z) ∙ last .1) (le-leb c k (omega arith)) in
+              rw (eq-eqb c k z) (made ∙ ap (λ j. cleared true (load ms j)) z ∙ ap (cleared true) (was .loads k) ∙ (λ i. cleared (sym on i) (load ls k)))
           | inr z ↦
-            let alike : (child t node k && leb (was .n) k) ≡ (child t node k && leb c k) = elim (cases-bool (child t node k)) [
-              | inl kid ↦ rw kid (elim (cases-lt c k) [
-                | inl above ↦ elim (cases-lt k (was .n)) [
-                  | inl l ↦ absurd (both-ways (child t node k) (last .2 k above l) kid)
-                  | inr l ↦ le-leb (was .n) k l ∙ sym (le-leb c k (omega arith))
-                ]
-                | inr below ↦ let less = last .0 in lt-leb (was .n) k (omega arith) ∙ sym (lt-leb c k (omega arith))
-              ])
-              | inr off ↦ and-left (child t node k) (leb (was .n) k) off ∙ sym (and-left (child t node k) (leb c k) off)
-            ] in
-            rw (ne-eqb c k z) (was .loads k ∙ (λ i. cleared (alike i) (load ls k)))
+              let alike : (child t node k && leb (was .n) k) ≡ (child t node k && leb c k) = elim (cases-bool (child t node k)) [
+                | inl kid ↦ rw kid (elim (cases-lt c k) [
+                  | inl above ↦ elim (cases-lt k (was .n)) [
+                    | inl l ↦ absurd (both-ways (child t node k) (last .2 k above l) kid)
+                    | inr l ↦ le-leb (was .n) k l ∙ sym (le-leb c k (omega arith))
+                  ]
+                  | inr below ↦ let less = last .0 in lt-leb (was .n) k (omega arith) ∙ sym (lt-leb c k (omega arith))
+                ])
+                | inr off ↦ and-left (child t node k) (leb (was .n) k) off ∙ sym (and-left (child t node k) (leb c k) off)
+              ] in
+              rw (ne-eqb c k z) (was .loads k ∙ (λ i. cleared (alike i) (load ls k)))
         ];
       }

@@ -1,21 +1,21 @@
 -- Settling one class after another settles them all.
 use mathlib.Core.Path.{_≡_, refl, sym, ap, _∙_}
 use mathlib.Core.Logic.{inl, inr}
-use mathlib.Core.Bool.{Bool, true, false, cond, not, _&&_, _||_}
+use mathlib.Core.Bool.{Bool, true, false, cond, not, _&&_, _||_, and-false, or-false}
 use mathlib.Core.List.{List}
 use Prim.Native.Nat.{ℕ, _+_, _-_, _<_, _≤_, max}
 use native.Mathlib.Omega.{arith}
 use lib.Dec.{eqb, ltb}
 use Rattle.std.specs.declared.option.Option.{Option}
 use Rattle.std.specs.declared.option.Option.the-variants.{Some, None}
-use Rattle.std.proofs.shelf.Tests.{cases-bool, cases-eq, eq-eqb, ne-eqb}
+use Rattle.std.proofs.shelf.Tests.{cases-eq, ne-eqb}
 use Rattle.base.specs.Charge.{charged}
-use Rattle.base.specs.declared.units.Parts.{Parts}
 use Rattle.tags.specs.Held.{Held}
 use Rattle.rules.specs.Shape.{Shape, Sound, under}
 use Rattle.tree.specs.Loads.{load, stocked}
-use Rattle.tree.specs.Walks.{fewer, rests, reached, restarted, settled}
+use Rattle.tree.specs.Walks.{rests, settled}
 use Rattle.tree.specs.declared.load.Load.{Load}
+use Rattle.tree.proofs.Marks.{unmarked}
 use Rattle.tree.proofs.Paths.{above, came, came-not, Walked, walk-none, walk-all, walk-more, next-new}
 
 -- the loads ms and the store h′ are what the loads ls and the store h are once the marked classes are settled
@@ -45,18 +45,6 @@ settle pos o gone l charge v r = record {
   vtime = record { 0 = cond (idle o gone l) 0 (l .vtime .0) };
 }
 
-pub middle : (a b : Bool) → (a && false && b) ≡ false
-middle true b = refl
-middle false b = refl
-
-pub last : (a : Bool) → (a && false) ≡ false
-last true = refl
-last false = refl
-
-or-false : (b : Bool) → (b || false) ≡ b
-or-false true = refl
-or-false false = refl
-
 both : (b : Bool) → _≡_ {A = ℕ} (cond b 0 0) 0
 both true = refl
 both false = refl
@@ -72,8 +60,8 @@ twice true true true x = refl
 settle-off : (pos gone : Bool) (l : Load) (charge v : ℕ) → settle pos false gone l charge v false ≡ l
 settle-off pos gone l charge v = λ i. record {
   backlog = l .backlog;
-  start = record { 0 = cond (middle pos (ltb 0 (l .backlog)) i) (max v (reach pos false l charge)) (l .start .0) };
-  finish = record { 0 = cond (last pos i) 0 (cond (last pos i) (l .start .0 + charge) (l .finish .0)) };
+  start = record { 0 = cond (unmarked pos (ltb 0 (l .backlog)) i) (max v (reach pos false l charge)) (l .start .0) };
+  finish = record { 0 = cond (and-false pos i) 0 (cond (and-false pos i) (l .start .0 + charge) (l .finish .0)) };
   vtime = record { 0 = l .vtime .0 };
 }
 
@@ -83,8 +71,8 @@ settle-again pos o gone l charge v v′ r r′ =
     let m : Load = settle pos o gone l charge v r in
     (λ i. record {
       backlog = m .backlog;
-      start = record { 0 = cond (middle pos (ltb 0 (m .backlog)) i) (max v′ (reach pos false m charge)) (m .start .0) };
-      finish = record { 0 = cond (pos && r′) 0 (cond (last pos i) (m .start .0 + charge) (m .finish .0)) };
+      start = record { 0 = cond (unmarked pos (ltb 0 (m .backlog)) i) (max v′ (reach pos false m charge)) (m .start .0) };
+      finish = record { 0 = cond (pos && r′) 0 (cond (and-false pos i) (m .start .0 + charge) (m .finish .0)) };
       vtime = m .vtime;
     }) ∙ (λ i. record { backlog = m .backlog; start = m .start; finish = record { 0 = twice pos r r′ (reach pos o l charge) i }; vtime = m .vtime })
 
@@ -111,29 +99,29 @@ module _ (t : Shape) (w : ℕ → ℕ) (d : ℕ) (gone : Bool) where
     rests-more : (p : ℕ) → rests t w ls (λ j. on j || eqb c j) d gone p ≡ (rests t w ls on d gone p || rests t w ms (eqb c) d gone p)
     rests-more p = elim (cases-eq c p) [
       | inl e ↦
-        let off : on p ≡ false = sym (ap on e) ∙ new in
-        (λ i. added p off i && not (ltb 0 (cond (added p off i && gone) (sym (unmoved p off) i - 1) (sym (unmoved p off) i))))
-        ∙ sym (ap (λ o. idle o gone (load ls p) || rests t w ms (eqb c) d gone p) off)
+          let off : on p ≡ false = sym (ap on e) ∙ new in
+          (λ i. added p off i && not (ltb 0 (cond (added p off i && gone) (sym (unmoved p off) i - 1) (sym (unmoved p off) i))))
+          ∙ sym (ap (λ o. idle o gone (load ls p) || rests t w ms (eqb c) d gone p) off)
       | inr n ↦
-        ap (λ o. idle o gone (load ls p)) (marked p n)
-        ∙ sym (or-false (rests t w ls on d gone p))
-        ∙ ap (λ o. rests t w ls on d gone p || o) (sym (ap (λ o. idle o gone (load ms p)) (ne-eqb c p n)))
+          ap (λ o. idle o gone (load ls p)) (marked p n)
+          ∙ sym (or-false (rests t w ls on d gone p))
+          ∙ ap (λ o. rests t w ls on d gone p || o) (sym (ap (λ o. idle o gone (load ms p)) (ne-eqb c p n)))
     ]
 
     settled-more : (k : ℕ) → settled t w ms (eqb c) d gone k ≡ settled t w ls (λ j. on j || eqb c j) d gone k
     settled-more k = elim (cases-eq c k) [
       | inl e ↦
-        let off : on k ≡ false = sym (ap on e) ∙ new in
-        let off′ : on (t .parent k) ≡ false = sym (ap (λ j. on (t .parent j)) e) ∙ new′ in
-        let here : load ms k ≡ load ls k = was k ∙ settled-off ls on k off off′ in
-        let node : load ms (t .parent k) .vtime .0 ≡ load ls (t .parent k) .vtime .0 = ap (λ l. l .vtime .0) (was (t .parent k)) ∙ ap (λ o. cond (idle o gone (load ls (t .parent k))) 0 (load ls (t .parent k) .vtime .0)) off′ in
-        let rest : rests t w ms (eqb c) d gone (t .parent k) ≡ rests t w ls (λ j. on j || eqb c j) d gone (t .parent k) =
-            ap (λ o. idle o gone (load ls (t .parent k)) || rests t w ms (eqb c) d gone (t .parent k)) (sym off′) ∙ sym (rests-more (t .parent k)) in
-        (λ i. settle (ltb 0 k) (sym (added k off) i) gone (here i) (charged d (w k)) (node i) (rest i))
+          let off : on k ≡ false = sym (ap on e) ∙ new in
+          let off′ : on (t .parent k) ≡ false = sym (ap (λ j. on (t .parent j)) e) ∙ new′ in
+          let here : load ms k ≡ load ls k = was k ∙ settled-off ls on k off off′ in
+          let node : load ms (t .parent k) .vtime .0 ≡ load ls (t .parent k) .vtime .0 = ap (λ l. l .vtime .0) (was (t .parent k)) ∙ ap (λ o. cond (idle o gone (load ls (t .parent k))) 0 (load ls (t .parent k) .vtime .0)) off′ in
+          let rest : rests t w ms (eqb c) d gone (t .parent k) ≡ rests t w ls (λ j. on j || eqb c j) d gone (t .parent k) =
+          ap (λ o. idle o gone (load ls (t .parent k)) || rests t w ms (eqb c) d gone (t .parent k)) (sym off′) ∙ sym (rests-more (t .parent k)) in
+          (λ i. settle (ltb 0 k) (sym (added k off) i) gone (here i) (charged d (w k)) (node i) (rest i))
       | inr n ↦
-        (λ i. settle (ltb 0 k) (ne-eqb c k n i) gone (was k i) (charged d (w k)) (load ms (t .parent k) .vtime .0) (rests t w ms (eqb c) d gone (t .parent k)))
-        ∙ settle-again (ltb 0 k) (on k) gone (load ls k) (charged d (w k)) (load ls (t .parent k) .vtime .0) (load ms (t .parent k) .vtime .0) (rests t w ls on d gone (t .parent k)) (rests t w ms (eqb c) d gone (t .parent k))
-        ∙ (λ i. settle (ltb 0 k) (sym (marked k n) i) gone (load ls k) (charged d (w k)) (load ls (t .parent k) .vtime .0) (sym (rests-more (t .parent k)) i))
+          (λ i. settle (ltb 0 k) (ne-eqb c k n i) gone (was k i) (charged d (w k)) (load ms (t .parent k) .vtime .0) (rests t w ms (eqb c) d gone (t .parent k)))
+          ∙ settle-again (ltb 0 k) (on k) gone (load ls k) (charged d (w k)) (load ls (t .parent k) .vtime .0) (load ms (t .parent k) .vtime .0) (rests t w ls on d gone (t .parent k)) (rests t w ms (eqb c) d gone (t .parent k))
+          ∙ (λ i. settle (ltb 0 k) (sym (marked k n) i) gone (load ls k) (charged d (w k)) (load ls (t .parent k) .vtime .0) (sym (rests-more (t .parent k)) i))
     ]
 
     -- what stands in the store for a marked class stays
@@ -142,27 +130,27 @@ module _ (t : Shape) (w : ℕ → ℕ) (d : ℕ) (gone : Bool) where
       kept k n =
           let backlog : load ms k .backlog ≡ load ns k .backlog = sym (ap (λ l. l .backlog) (more k) ∙ ap (λ o. less o gone (load ms k)) (ne-eqb c k n)) in
           let start : load ms k .start ≡ load ns k .start = sym (ap (λ l. l .start) (more k) ∙
-              (λ i. record { 0 = restart (ltb 0 k) (ne-eqb c k n i) gone (load ms k) (charged d (w k)) (load ms (t .parent k) .vtime .0) }) ∙
-              (λ i. record { 0 = cond (middle (ltb 0 k) (ltb 0 (load ms k .backlog)) i) (max (load ms (t .parent k) .vtime .0) (reach (ltb 0 k) false (load ms k) (charged d (w k)))) (load ms k .start .0) })) in
+          (λ i. record { 0 = restart (ltb 0 k) (ne-eqb c k n i) gone (load ms k) (charged d (w k)) (load ms (t .parent k) .vtime .0) }) ∙
+          (λ i. record { 0 = cond (unmarked (ltb 0 k) (ltb 0 (load ms k .backlog)) i) (max (load ms (t .parent k) .vtime .0) (reach (ltb 0 k) false (load ms k) (charged d (w k)))) (load ms k .start .0) })) in
           (λ i. cond (ltb 0 k && ltb 0 (backlog i)) (Some (t .parent k, start i)) None)
 
       held-more : (k : ℕ) → h″ k ≡ cond (ltb 0 k && (on k || eqb c k)) (stocked t ns k) (h k)
       held-more k = has k ∙ elim (cases-eq c k) [
         | inl e ↦
-          let off : on k ≡ false = sym (ap on e) ∙ new in
-          (λ i. cond (ltb 0 k && sym (added k off) i) (stocked t ns k) ((had k ∙ ap (λ o. cond (ltb 0 k && o) (stocked t ms k) (h k)) off ∙ ap (λ b. cond b (stocked t ms k) (h k)) (last (ltb 0 k))) i))
+            let off : on k ≡ false = sym (ap on e) ∙ new in
+            (λ i. cond (ltb 0 k && sym (added k off) i) (stocked t ns k) ((had k ∙ ap (λ o. cond (ltb 0 k && o) (stocked t ms k) (h k)) off ∙ ap (λ b. cond b (stocked t ms k) (h k)) (and-false (ltb 0 k))) i))
         | inr n ↦
-          ap (λ o. cond (ltb 0 k && o) (stocked t ns k) (h′ k)) (ne-eqb c k n)
-          ∙ ap (λ b. cond b (stocked t ns k) (h′ k)) (last (ltb 0 k))
-          ∙ had k
-          ∙ (λ i. cond (ltb 0 k && sym (marked k n) i) (kept k n i) (h k))
+            ap (λ o. cond (ltb 0 k && o) (stocked t ns k) (h′ k)) (ne-eqb c k n)
+            ∙ ap (λ b. cond b (stocked t ns k) (h′ k)) (and-false (ltb 0 k))
+            ∙ had k
+            ∙ (λ i. cond (ltb 0 k && sym (marked k n) i) (kept k n i) (h k))
       ]
 
   -- at first no class is marked
   pub settled-none : (ls : List Load) (h : Held) → Settled t w d gone ls ls h h (λ _. false)
   settled-none ls h = record {
     loads = λ k. sym (settled-off ls (λ _. false) k refl refl);
-    held = λ k. ap (λ b. cond b (stocked t ls k) (h k)) (sym (last (ltb 0 k)));
+    held = λ k. ap (λ b. cond b (stocked t ls k) (h k)) (sym (and-false (ltb 0 k)));
   }
 
   -- then one more
@@ -189,7 +177,7 @@ module _ (t : Shape) (w : ℕ → ℕ) (d : ℕ) (gone : Bool) where
         let off = came-not ok leaf known next k (omega arith) in
         ap (λ l. l .finish .0) (was .1 .loads k)
         ∙ ap (λ o. cond (ltb 0 k && rests t w ls (came t leaf next) d gone (t .parent k)) 0 (reach (ltb 0 k) o (load ls k) (charged d (w k)))) off
-        ∙ ap (λ b. cond (ltb 0 k && rests t w ls (came t leaf next) d gone (t .parent k)) 0 (cond b (load ls k .start .0 + charged d (w k)) (load ls k .finish .0))) (last (ltb 0 k))
+        ∙ ap (λ b. cond (ltb 0 k && rests t w ls (came t leaf next) d gone (t .parent k)) 0 (cond b (load ls k .start .0 + charged d (w k)) (load ls k .finish .0))) (and-false (ltb 0 k))
         ∙ ap (λ x. cond (ltb 0 k && rests t w ls (came t leaf next) d gone (t .parent k)) 0 x) (blank k past)
         ∙ both (ltb 0 k && rests t w ls (came t leaf next) d gone (t .parent k))
 

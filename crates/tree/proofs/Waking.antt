@@ -1,19 +1,20 @@
 -- Waking one class after another wakes them all.
 use mathlib.Core.Path.{_≡_, refl, sym, ap, _∙_}
 use mathlib.Core.Logic.{inl, inr}
-use mathlib.Core.Bool.{Bool, true, false, cond, _&&_, _||_}
+use mathlib.Core.Bool.{Bool, false, cond, _&&_, _||_, or-false}
 use mathlib.Core.List.{List}
 use Prim.Native.Nat.{ℕ, _+_, _<_, max}
 use lib.Dec.{eqb, ltb}
 use Rattle.std.specs.declared.option.Option.{Option}
 use Rattle.std.specs.declared.option.Option.the-variants.{Some, None}
-use Rattle.std.proofs.shelf.Tests.{cases-eq, eq-eqb, ne-eqb}
+use Rattle.std.proofs.shelf.Tests.{cases-eq, ne-eqb}
 use Rattle.base.specs.declared.units.Parts.{Parts}
 use Rattle.tags.specs.Held.{Held, free}
 use Rattle.rules.specs.Shape.{Shape, Sound, under}
 use Rattle.tree.specs.Loads.{load}
-use Rattle.tree.specs.Walks.{wakes, woken, woken-held}
+use Rattle.tree.specs.Walks.{woken, woken-held}
 use Rattle.tree.specs.declared.load.Load.{Load}
+use Rattle.tree.proofs.Marks.{unmarked}
 use Rattle.tree.proofs.Paths.{above, came, Walked, walk-none, walk-all, walk-more, next-new}
 
 -- the loads ms and the store h′ are what the loads ls and the store h are once the marked classes are awake
@@ -34,25 +35,17 @@ woke pos o l v = record {
 abbrev woke-held : Bool → Bool → Load → ℕ → ℕ → Option (ℕ × Parts) → Option (ℕ × Parts)
 woke-held pos o l v node p = cond ((pos && o && eqb (l .backlog) 0) && free p) (Some (node, woke pos o l v .start)) p
 
-middle : (a b : Bool) → (a && false && b) ≡ false
-middle true b = refl
-middle false b = refl
-
-or-false : (b : Bool) → (b || false) ≡ b
-or-false true = refl
-or-false false = refl
-
 module _ (t : Shape) where
   -- a class that is not marked stays as it is
   pub woken-off : (ls : List Load) (on : ℕ → Bool) (k : ℕ) → on k ≡ false → woken t ls on k ≡ load ls k
   woken-off ls on k off =
       ap (λ o. woke (ltb 0 k) o (load ls k) (load ls (t .parent k) .vtime .0)) off
-      ∙ (λ i. record { backlog = load ls k .backlog; start = record { 0 = cond (middle (ltb 0 k) (eqb (load ls k .backlog) 0) i) (max (load ls (t .parent k) .vtime .0) (load ls k .finish .0)) (load ls k .start .0) }; finish = load ls k .finish; vtime = load ls k .vtime })
+      ∙ (λ i. record { backlog = load ls k .backlog; start = record { 0 = cond (unmarked (ltb 0 k) (eqb (load ls k .backlog) 0) i) (max (load ls (t .parent k) .vtime .0) (load ls k .finish .0)) (load ls k .start .0) }; finish = load ls k .finish; vtime = load ls k .vtime })
 
   pub woken-held-off : (ls : List Load) (on : ℕ → Bool) (h : Held) (k : ℕ) → on k ≡ false → woken-held t ls on h k ≡ h k
   woken-held-off ls on h k off =
       ap (λ o. woke-held (ltb 0 k) o (load ls k) (load ls (t .parent k) .vtime .0) (t .parent k) (h k)) off
-      ∙ ap (λ b. cond (b && free (h k)) (Some (t .parent k, woke (ltb 0 k) false (load ls k) (load ls (t .parent k) .vtime .0) .start)) (h k)) (middle (ltb 0 k) (eqb (load ls k .backlog) 0))
+      ∙ ap (λ b. cond (b && free (h k)) (Some (t .parent k, woke (ltb 0 k) false (load ls k) (load ls (t .parent k) .vtime .0) .start)) (h k)) (unmarked (ltb 0 k) (eqb (load ls k .backlog) 0))
 
   -- only the mark of the class itself counts
   pub woken-alike : (ls : List Load) (on off : ℕ → Bool) (k : ℕ) → on k ≡ off k → woken t ls on k ≡ woken t ls off k
@@ -81,8 +74,8 @@ module _ (t : Shape) where
     woken-held-more : (h h′ : Held) → ((k : ℕ) → h′ k ≡ woken-held t ls on h k) → (k : ℕ) → woken-held t ms (eqb c) h′ k ≡ woken-held t ls (λ j. on j || eqb c j) h k
     woken-held-more h h′ had k = elim (cases-eq c k) [
       | inl e ↦
-        let same : h′ k ≡ h k = had k ∙ woken-held-off ls on h k (sym (ap on e) ∙ new) in
-        (λ i. woke-held (ltb 0 k) (added k e i) (here k e i) (was (t .parent k) i .vtime .0) (t .parent k) (same i))
+          let same : h′ k ≡ h k = had k ∙ woken-held-off ls on h k (sym (ap on e) ∙ new) in
+          (λ i. woke-held (ltb 0 k) (added k e i) (here k e i) (was (t .parent k) i .vtime .0) (t .parent k) (same i))
       | inr n ↦ woken-held-off ms (eqb c) h′ k (ne-eqb c k n) ∙ had k ∙ woken-held-alike ls on (λ j. on j || eqb c j) h k (marked k n)
     ]
 

@@ -5,6 +5,7 @@ use crate::load::Load;
 use tags::TagStore;
 
 pub(crate) mod descent;
+pub(crate) mod settling;
 pub(crate) mod walks;
 
 /// The load of each class number, and the store in which each backlogged class but the root stands under its parent.

@@ -15,9 +15,10 @@ pub loop-node-again : need.loop-node-again
 loop-node-again g c =
     let t = c .args .table .now in
     let (pos, known, is) = above-some (shape-of t) (c .loop-node .class) (c .in-Some .node) (c .in-Some .ensures tt) in
-    let low : c .in-Some .node < length (c .loop-node .self .loads) = omega (arith, t .earlier (c .loop-node .class) pos, t .few, c .loop-node .self .size) in
-    (advancing-more (shape-sound t) (c .args .leaf) (c .pre .known) (c .args .self .now .loads) (c .loop-node .self .loads) (c .loop-node .class) (c .loop-node .inv .0) (c .in-Some .node) _ (c .in-Some .ensures tt) low refl,
-    c .loop-node .inv .1)
+    let low : c .in-Some .node < length (c .loop-node .self .loads) = omega (arith, t .earlier (c .loop-node .class) pos, t .few, c .loop-node .self .size) in (
+      advancing-more (shape-sound t) (c .args .leaf) (c .pre .known) (c .args .self .now .loads) (c .loop-node .self .loads) (c .loop-node .class) (c .loop-node .inv .0) (c .in-Some .node) _ (c .in-Some .ensures tt) low refl,
+      c .loop-node .inv .1,
+    )
 
 pub returns : need.returns
 returns g c = record {

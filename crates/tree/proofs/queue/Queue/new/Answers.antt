@@ -1,6 +1,6 @@
 use mathlib.Core.Path.{_≡_, refl}
 use Prim.Native.Nat.{ℕ, zero, suc}
-use lib.ListN.{getD, replicate}
+use lib.ListN.{replicate}
 use Rattle.tree.specs.Loads.{load, no-load}
 use Rattle.tree.proofs.queue.Queue.new.Needs as need
 

@@ -1,4 +1,4 @@
-use mathlib.Core.Path.{_≡_, sym, _∙_}
+use mathlib.Core.Path.{sym}
 use lib.Dec.{lit<}
 use Rattle.tree.proofs.Descending.{pick-idle, pick-root, pick-none, pick-some}
 use Rattle.tree.proofs.queue.Queue.pick.Needs as need

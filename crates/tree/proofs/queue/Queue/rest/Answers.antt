@@ -1,4 +1,4 @@
-use mathlib.Core.Path.{_≡_, refl, ap, _∙_}
+use mathlib.Core.Path.{refl}
 use Prim.Native.Nat.{_<_}
 use native.Mathlib.Omega.{arith}
 use lib.ListN.{length}
@@ -26,9 +26,10 @@ loop-next-less g c =
 pub loop-next-again : need.loop-next-again
 loop-next-again g c =
     let known = child-known (shape-sound (c .args .table .now)) (c .args .node) _ _ (c .loop-next .next) (c .loop-next .inv .0) (c .in-Some .child) (c .in-Some .is) in
-    let low : c .in-Some .child < length (c .loop-next .self .loads) = omega (arith, c .args .table .now .few, c .loop-next .self .size) in
-    (clearing-more (shape-sound (c .args .table .now)) (c .args .node) _ _ (c .loop-next .next) (c .loop-next .inv .0) (c .in-Some .child) (c .in-Some .is) _ (c .next-sibling-next .result) low refl (c .next-sibling-next .ensures),
-    c .loop-next .inv .1)
+    let low : c .in-Some .child < length (c .loop-next .self .loads) = omega (arith, c .args .table .now .few, c .loop-next .self .size) in (
+      clearing-more (shape-sound (c .args .table .now)) (c .args .node) _ _ (c .loop-next .next) (c .loop-next .inv .0) (c .in-Some .child) (c .in-Some .is) _ (c .next-sibling-next .result) low refl (c .next-sibling-next .ensures),
+      c .loop-next .inv .1,
+    )
 
 pub returns : need.returns
 returns g c =

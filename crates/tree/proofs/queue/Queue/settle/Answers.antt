@@ -1,5 +1,3 @@
-use mathlib.Core.Path.{ap}
-use Prim.Native.Nat.{_+_, _*_, _≤_}
 use Rattle.classes.specs.Tables.{shape-of, weight-of}
 use Rattle.classes.proofs.Tables.{shape-sound}
 use Rattle.tree.proofs.Paths.{next-known, next-falls}

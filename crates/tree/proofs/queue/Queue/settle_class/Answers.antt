@@ -1,10 +1,8 @@
-use mathlib.Core.Path.{_≡_, ap, _∙_}
-use mathlib.Core.Bool.{cond, _&&_}
+use mathlib.Core.Path.{_≡_, ap}
 use native.Mathlib.Omega.{arith}
-use lib.Dec.{eqb, ltb}
 use Rattle.classes.specs.Tables.{shape-of, weight-of}
 use Rattle.tree.specs.Loads.{load}
-use Rattle.tree.proofs.Charging.{charged-blank, settled-busy, settled-idle, stocked-idle}
+use Rattle.tree.proofs.Charging.{charged-blank, settled-busy, settled-idle, settled-held}
 use Rattle.tree.proofs.queue.Queue.settle_class.Needs as need
 
 pub returns-then-self-class-gt0 : need.returns-then-self-class-gt0
@@ -31,9 +29,6 @@ returns g c =
     record {
       value = c .parent-above .ensures;
       loads = settled-idle (shape-of t) (weight-of t) (c .args .done) (c .args .gone) (c .args .self .now .loads) (c .args .class) _ (c .charge-class .ensures .loads) _ none (c .rest .ensures .loads);
-      held = λ k.
-          ap (λ s. g .T·TagStore .held s k) (c .rest .ensures .store)
-          ∙ c .charge-class .ensures .held k
-          ∙ ap (λ o. cond (ltb 0 k && eqb (c .args .class) k) o (g .T·TagStore .held (c .args .self .now .store) k))
-          (stocked-idle (shape-of t) (weight-of t) (c .args .done) (c .args .gone) (c .args .self .now .loads) (c .args .class) _ (c .charge-class .ensures .loads) _ none (c .rest .ensures .loads) k);
+      held = settled-held (shape-of t) (weight-of t) (c .args .done) (c .args .gone) (c .args .self .now .loads) (c .args .class) _ (c .charge-class .ensures .loads) _ none (c .rest .ensures .loads)
+          _ _ _ (c .charge-class .ensures .held) (ap (g .T·TagStore .held) (c .rest .ensures .store));
     }
