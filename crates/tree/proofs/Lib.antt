@@ -3,7 +3,7 @@ pub mod Paths
 pub mod Writes
 pub mod Waking
 pub mod Settling
-pub mod Resting
-pub mod Descending
-pub mod Advancing
 pub mod Charging
+pub mod Resting
+pub mod Advancing
+pub mod Descending
