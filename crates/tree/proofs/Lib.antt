@@ -1,7 +1,9 @@
+pub mod Marks
 pub mod Paths
 pub mod Writes
 pub mod Waking
 pub mod Settling
+pub mod Charging
 pub mod Resting
 pub mod Advancing
 pub mod Descending

@@ -1,20 +1,21 @@
 -- Waking one class after another wakes them all.
-use mathlib.Core.Path.{_≡_, refl, sym, ap, subst, _∙_}
+use mathlib.Core.Path.{_≡_, refl, sym, ap, _∙_}
 use mathlib.Core.Logic.{inl, inr}
-use mathlib.Core.Bool.{Bool, true, false, cond, _&&_, _||_}
+use mathlib.Core.Bool.{Bool, false, cond, _&&_, _||_, or-false}
 use mathlib.Core.List.{List}
 use Prim.Native.Nat.{ℕ, _+_, _<_, max}
 use lib.Dec.{eqb, ltb}
 use Rattle.std.specs.declared.option.Option.{Option}
 use Rattle.std.specs.declared.option.Option.the-variants.{Some, None}
-use Rattle.std.proofs.shelf.Tests.{cases-eq, eq-eqb, ne-eqb}
+use Rattle.std.proofs.shelf.Tests.{cases-eq, ne-eqb}
 use Rattle.base.specs.declared.units.Parts.{Parts}
 use Rattle.tags.specs.Held.{Held, free}
 use Rattle.rules.specs.Shape.{Shape, Sound, under}
 use Rattle.tree.specs.Loads.{load}
-use Rattle.tree.specs.Walks.{wakes, woken, woken-held}
+use Rattle.tree.specs.Walks.{woken, woken-held}
 use Rattle.tree.specs.declared.load.Load.{Load}
-use Rattle.tree.proofs.Paths.{above, came, came-none, came-here, came-more, path-next, path-more, under-self, OnPath}
+use Rattle.tree.proofs.Marks.{unmarked}
+use Rattle.tree.proofs.Paths.{above, came, Walked, walk-none, walk-all, walk-more, next-new}
 
 -- the loads ms and the store h′ are what the loads ls and the store h are once the marked classes are awake
 pub record Woke (t : Shape) (ls ms : List Load) (h h′ : Held) (on : ℕ → Bool) : Type 0 where
@@ -34,25 +35,17 @@ woke pos o l v = record {
 abbrev woke-held : Bool → Bool → Load → ℕ → ℕ → Option (ℕ × Parts) → Option (ℕ × Parts)
 woke-held pos o l v node p = cond ((pos && o && eqb (l .backlog) 0) && free p) (Some (node, woke pos o l v .start)) p
 
-middle : (a b : Bool) → (a && false && b) ≡ false
-middle true b = refl
-middle false b = refl
-
-or-false : (b : Bool) → (b || false) ≡ b
-or-false true = refl
-or-false false = refl
-
 module _ (t : Shape) where
   -- a class that is not marked stays as it is
   pub woken-off : (ls : List Load) (on : ℕ → Bool) (k : ℕ) → on k ≡ false → woken t ls on k ≡ load ls k
   woken-off ls on k off =
       ap (λ o. woke (ltb 0 k) o (load ls k) (load ls (t .parent k) .vtime .0)) off
-      ∙ (λ i. record { backlog = load ls k .backlog; start = record { 0 = cond (middle (ltb 0 k) (eqb (load ls k .backlog) 0) i) (max (load ls (t .parent k) .vtime .0) (load ls k .finish .0)) (load ls k .start .0) }; finish = load ls k .finish; vtime = load ls k .vtime })
+      ∙ (λ i. record { backlog = load ls k .backlog; start = record { 0 = cond (unmarked (ltb 0 k) (eqb (load ls k .backlog) 0) i) (max (load ls (t .parent k) .vtime .0) (load ls k .finish .0)) (load ls k .start .0) }; finish = load ls k .finish; vtime = load ls k .vtime })
 
   pub woken-held-off : (ls : List Load) (on : ℕ → Bool) (h : Held) (k : ℕ) → on k ≡ false → woken-held t ls on h k ≡ h k
   woken-held-off ls on h k off =
       ap (λ o. woke-held (ltb 0 k) o (load ls k) (load ls (t .parent k) .vtime .0) (t .parent k) (h k)) off
-      ∙ ap (λ b. cond (b && free (h k)) (Some (t .parent k, woke (ltb 0 k) false (load ls k) (load ls (t .parent k) .vtime .0) .start)) (h k)) (middle (ltb 0 k) (eqb (load ls k .backlog) 0))
+      ∙ ap (λ b. cond (b && free (h k)) (Some (t .parent k, woke (ltb 0 k) false (load ls k) (load ls (t .parent k) .vtime .0) .start)) (h k)) (unmarked (ltb 0 k) (eqb (load ls k .backlog) 0))
 
   -- only the mark of the class itself counts
   pub woken-alike : (ls : List Load) (on off : ℕ → Bool) (k : ℕ) → on k ≡ off k → woken t ls on k ≡ woken t ls off k
@@ -81,42 +74,40 @@ module _ (t : Shape) where
     woken-held-more : (h h′ : Held) → ((k : ℕ) → h′ k ≡ woken-held t ls on h k) → (k : ℕ) → woken-held t ms (eqb c) h′ k ≡ woken-held t ls (λ j. on j || eqb c j) h k
     woken-held-more h h′ had k = elim (cases-eq c k) [
       | inl e ↦
-        let same : h′ k ≡ h k = had k ∙ woken-held-off ls on h k (sym (ap on e) ∙ new) in
-        (λ i. woke-held (ltb 0 k) (added k e i) (here k e i) (was (t .parent k) i .vtime .0) (t .parent k) (same i))
+          let same : h′ k ≡ h k = had k ∙ woken-held-off ls on h k (sym (ap on e) ∙ new) in
+          (λ i. woke-held (ltb 0 k) (added k e i) (here k e i) (was (t .parent k) i .vtime .0) (t .parent k) (same i))
       | inr n ↦ woken-held-off ms (eqb c) h′ k (ne-eqb c k n) ∙ had k ∙ woken-held-alike ls on (λ j. on j || eqb c j) h k (marked k n)
     ]
 
   -- at first no class is marked
-  pub woke-none : (ls : List Load) (h : Held) (on : ℕ → Bool) → ((k : ℕ) → on k ≡ false) → Woke t ls ls h h on
-  woke-none ls h on off = record { loads = λ k. sym (woken-off ls on k (off k)); held = λ k. sym (woken-held-off ls on h k (off k)) }
+  pub woke-none : (ls : List Load) (h : Held) → Woke t ls ls h h (λ _. false)
+  woke-none ls h = record { loads = λ k. sym (woken-off ls (λ _. false) k refl); held = λ k. sym (woken-held-off ls (λ _. false) h k refl) }
 
   -- then one more
-  pub woke-more : (ls ms ns : List Load) (h h′ h″ : Held) (on off : ℕ → Bool) (c : ℕ) → Woke t ls ms h h′ on → on c ≡ false → Woke t ms ns h′ h″ (eqb c) → ((k : ℕ) → off k ≡ (on k || eqb c k)) → Woke t ls ns h h″ off
-  woke-more ls ms ns h h′ h″ on off c was new more alike = record {
-    loads = λ k. more .loads k ∙ woken-more ls ms on (was .loads) c new k ∙ woken-alike ls (λ j. on j || eqb c j) off k (sym (alike k));
-    held = λ k. more .held k ∙ woken-held-more ls ms on (was .loads) c new h h′ (was .held) k ∙ woken-held-alike ls (λ j. on j || eqb c j) off h k (sym (alike k));
+  pub woke-more : (ls ms ns : List Load) (h h′ h″ : Held) (on : ℕ → Bool) (c : ℕ) → Woke t ls ms h h′ on → on c ≡ false → Woke t ms ns h′ h″ (eqb c) → Woke t ls ns h h″ (λ j. on j || eqb c j)
+  woke-more ls ms ns h h′ h″ on c was new more = record {
+    loads = λ k. more .loads k ∙ woken-more ls ms on (was .loads) c new k;
+    held = λ k. more .held k ∙ woken-held-more ls ms on (was .loads) c new h h′ (was .held) k;
   }
 
   -- along a path
-  module _ (ok : Sound t) (leaf : ℕ) (known : leaf < t .count) where
-    abbrev pub Waking : List Load → Held → Option ℕ → List Load → Held → Type 0
-    Waking ls h next ms h′ = OnPath t leaf next × Woke t ls ms h h′ (came t leaf next)
+  module _ (ok : Sound t) (leaf : ℕ) (known : leaf < t .count) (ls : List Load) (h : Held) where
+    abbrev pub Waking : List Load → Held → Option ℕ → Type 0
+    Waking ms h′ next = Walked t leaf (Woke t ls ms h h′) next
 
-    pub waking-none : (ls : List Load) (h : Held) → Waking ls h (Some leaf) ls h
-    waking-none ls h = (under-self ok known, woke-none ls h (came t leaf (Some leaf)) (came-none ok leaf known))
+    pub waking-none : Waking ls h (Some leaf)
+    waking-none = walk-none ok leaf known (Woke t ls ls h h) (woke-none ls h)
 
-    pub waking-more : (ls ms ns : List Load) (h h′ h″ : Held) (next next′ : Option ℕ) (c : ℕ) → next ≡ Some c → next′ ≡ above t c → Waking ls h next ms h′ → Woke t ms ns h′ h″ (eqb c) → Waking ls h next′ ns h″
-    waking-more ls ms ns h h′ h″ next next′ c is step (on, was) more =
-        let u = path-next ok leaf known next c is on in
-        let now : Woke t ls ms h h′ (came t leaf (Some c)) = subst (λ o. Woke t ls ms h h′ (came t leaf o)) is was in
-        subst (λ o. Waking ls h o ns h″) (sym step)
-        (path-more ok leaf known c u, woke-more ls ms ns h h′ h″ (came t leaf (Some c)) (came t leaf (above t c)) c now (came-here ok leaf known c u) more (came-more ok leaf known c u))
+    pub waking-all : (ms : List Load) (h′ : Held) (next : Option ℕ) → next ≡ None → Waking ms h′ next → Woke t ls ms h h′ (λ j. under t j leaf)
+    waking-all ms h′ next is was = walk-all ok leaf known (Woke t ls ms h h′) next is was
 
-    -- the next class is as it was
-    pub waking-here : (ls ms : List Load) (h h′ : Held) (next : Option ℕ) (c : ℕ) → next ≡ Some c → Waking ls h next ms h′ → load ms c ≡ load ls c
-    waking-here ls ms h h′ next c is (on, was) =
-        was .loads c ∙ woken-off ls (came t leaf next) c (ap (λ o. came t leaf o c) is ∙ came-here ok leaf known c (path-next ok leaf known next c is on))
+    module _ (ms : List Load) (h′ : Held) (next : Option ℕ) (c : ℕ) (is : next ≡ Some c) (was : Waking ms h′ next) where
+      new : came t leaf next c ≡ false
+      new = next-new ok leaf known next c is (was .0) .0
 
-    -- past the root all of the path are awake
-    pub waking-all : (ls ms : List Load) (h h′ : Held) (next : Option ℕ) → next ≡ None → Waking ls h next ms h′ → Woke t ls ms h h′ (λ j. under t j leaf)
-    waking-all ls ms h h′ next is (on, was) = subst (λ o. Woke t ls ms h h′ (came t leaf o)) is was
+      -- the next class is as it was
+      pub waking-here : load ms c ≡ load ls c
+      waking-here = was .1 .loads c ∙ woken-off ls (came t leaf next) c new
+
+      pub waking-more : (ns : List Load) (h″ : Held) (next′ : Option ℕ) → next′ ≡ above t c → Woke t ms ns h′ h″ (eqb c) → Waking ns h″ next′
+      waking-more ns h″ next′ e more = walk-more ok leaf known next c is (was .0) (Woke t ls ns h h″) next′ e (woke-more ls ms ns h h′ h″ (came t leaf next) c (was .1) new more)

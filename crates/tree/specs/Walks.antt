@@ -88,6 +88,10 @@ abbrev pub down : Held → ℕ → ℕ → ℕ
 down h zero node = node
 down h (suc n) node = down h n (child-or (leastOf h node) node)
 
+-- as far down from a node as the store leads, since no class is deeper than 7 (no `abbrev`, since at 7 that would compute)
+unfoldable pub lowest : Held → ℕ → ℕ
+lowest h node = down h 7 node
+
 -- from the least child of the root as far down as the store leads; none where the root has no such child
 abbrev pub below-root : Held → Option (ℕ × Parts) → Option ℕ
 below-root h None = None

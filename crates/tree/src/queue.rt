@@ -6,6 +6,7 @@ use tags::TagStore;
 
 pub(crate) mod descent;
 pub(crate) mod reading;
+pub(crate) mod settling;
 pub(crate) mod walks;
 
 /// The load of each class number, and the store in which each backlogged class but the root stands under its parent.

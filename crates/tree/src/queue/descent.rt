@@ -6,11 +6,14 @@ ghost use Rattle.rules.specs.Shape.{leaf};
 ghost use Rattle.std.specs.Options.{Cases as BySome};
 ghost use Rattle.tags.specs.Held.{nothing};
 ghost use Rattle.tree.specs.Loads.{load, no-load};
-ghost use Rattle.tree.specs.Walks.{down, pick};
+ghost use Rattle.tree.specs.Walks.{lowest, pick};
 use crate::load::Load;
 use crate::queue::Queue;
 use classes::table::ClassTable;
 use tags::TagStore;
+
+/// No class is deeper.
+const DEEPEST: u8 = 7;
 
 impl<T: TagStore> Queue<T> {
     /// Nothing waits, and every tag is 0.
@@ -35,18 +38,20 @@ impl<T: TagStore> Queue<T> {
             }
             return Some(0);
         }
-        let (child, _) = self.store.least(0)?;
-        Some(self.descend(child))
+        match self.store.least(0) {
+            Some((child, _)) => Some(self.descend(child)),
+            None => None,
+        }
     }
 
-    /// As far down from a node as the store leads. No class is deeper than 7.
+    /// As far down from a node as the store leads.
     fn descend(&self, from: u8) -> u8
         requires { ⌜ from < 64 ⌝ }
-        ensures value { λ r. ⌜ r ≡ down (T·TagStore .held (now (self .entry) .store)) 7 from ⌝ }
+        ensures value { λ r. ⌜ r ≡ lowest (T·TagStore .held (now (self .entry) .store)) from ⌝ }
         ensures known { λ r. ⌜ r < 64 ⌝ }
     {
         let mut node = from;
-        for _ in 0..7 {
+        for _ in 0..DEEPEST {
             match self.store.least(node) {
                 Some((child, _)) => node = child,
                 None => return node,
