@@ -16,3 +16,4 @@ pub mod Dispatches
 pub mod Grants
 pub mod Closings
 pub mod Openings
+pub mod Calls

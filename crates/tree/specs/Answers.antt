@@ -18,8 +18,11 @@ submitted (Ok u) = accepted
 submitted (Err e) = refused e
 
 -- a dispatch
+abbrev pub granted-by : Dispatch → Answer
+granted-by d = granted (grant-of (d .grant)) (d .class) (d .cost)
+
 abbrev pub dispatched : Result Dispatch Refusal → Answer
-dispatched (Ok d) = granted (grant-of (d .grant)) (d .class) (d .cost)
+dispatched (Ok d) = granted-by d
 dispatched (Err e) = refused e
 
 -- a pulse

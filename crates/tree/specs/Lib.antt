@@ -7,3 +7,4 @@ pub mod Trees
 pub mod Answers
 pub mod Draws
 pub mod Closings
+pub mod Calls

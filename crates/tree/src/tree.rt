@@ -17,6 +17,7 @@ use items::Item;
 use std::marker::PhantomData;
 use tags::TagStore;
 
+pub mod call;
 pub mod calls;
 pub mod closing;
 pub mod opening;
