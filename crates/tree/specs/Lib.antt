@@ -1,0 +1,10 @@
+pub mod Loads
+pub mod Walks
+pub mod Turns
+pub mod Counts
+pub mod States
+pub mod Trees
+pub mod Answers
+pub mod Draws
+pub mod Closings
+pub mod Calls
