@@ -11,7 +11,7 @@ use minimise::minimise;
 use player::{Answer, Player, Program};
 use tally::Tally;
 
-const USAGE: &str = "usage: compare [--count N] [--first SEED] [--valid | --damaged] [--tally] [--keep FILE] PROGRAM
+const USAGE: &str = "usage: compare [--count N] [--first KEY] [--valid | --damaged] [--tally] [--keep FILE] PROGRAM
    or, built with the feature `linked`, --linked in place of PROGRAM";
 
 struct Options {
@@ -29,12 +29,12 @@ fn main() -> ExitCode {
         return ExitCode::from(2);
     };
     let mut tally = Tally::default();
-    for seed in options.first..options.first.saturating_add(options.count) {
-        let trace = (options.make)(seed);
+    for key in options.first..options.first.saturating_add(options.count) {
+        let trace = (options.make)(key);
         let expected = baseline::play(&trace);
         tally.count(&expected);
         if options.player.play(&trace) != Answer::Listing(expected) {
-            tell(seed, &trace, &mut options);
+            tell(key, &trace, &mut options);
             return ExitCode::FAILURE;
         }
     }
@@ -71,10 +71,10 @@ fn options() -> Option<Options> {
 }
 
 /// Makes the trace shorter as long as the answers differ, then shows and keeps it.
-fn tell(seed: u64, trace: &[u8], options: &mut Options) {
+fn tell(key: u64, trace: &[u8], options: &mut Options) {
     let player = &mut options.player;
     let least = minimise(trace, |trace| player.play(trace) != Answer::Listing(baseline::play(trace)));
-    println!("seed {seed}: the answers differ, also for this trace:");
+    println!("key {key}: the answers differ, also for this trace:");
     for line in least.split_inclusive(|b| *b == b'\n') {
         println!("    {}", line.escape_ascii());
     }
@@ -119,16 +119,16 @@ mod tests {
 
     #[test]
     fn both_sets_of_the_baseline_answer_alike() {
-        for seed in 0..1_500 {
-            let trace = tracegen::trace(seed);
-            assert!(baseline::play(&trace) == play_with::<HeapSet>(&trace), "seed {seed}");
+        for key in 0..1_500 {
+            let trace = tracegen::trace(key);
+            assert!(baseline::play(&trace) == play_with::<HeapSet>(&trace), "key {key}");
         }
     }
 
     #[test]
     fn valid_traces_have_no_fault() {
-        for seed in 0..600 {
-            assert_ne!(baseline::play(&tracegen::valid(seed))[0], b'!', "seed {seed}");
+        for key in 0..600 {
+            assert_ne!(baseline::play(&tracegen::valid(key))[0], b'!', "key {key}");
         }
     }
 
@@ -136,8 +136,8 @@ mod tests {
     #[test]
     fn random_traces_meet_every_refusal_and_fault() {
         let mut tally = Tally::default();
-        for seed in 0..3_000 {
-            tally.count(&baseline::play(&tracegen::trace(seed)));
+        for key in 0..3_000 {
+            tally.count(&baseline::play(&tracegen::trace(key)));
         }
         let answers =
             ["a 0", "a 1", "a 2", "a 3", "a 5", "d 0", "d 6", "d 7", "p 0", "p 9", "e 0", "e 9", "e 10", "g 0", "g 9"];

@@ -1,4 +1,4 @@
-//! Random traces, valid and damaged. A seed always gives the same trace.
+//! Random traces, valid and damaged. A key always gives the same trace.
 
 mod damage;
 mod events;
@@ -10,14 +10,14 @@ pub use rng::Rng;
 /// The longest trace that is not refused for its length.
 pub const MAX_BYTES: usize = 32_768;
 
-/// Valid or damaged, as the seed has it.
-pub fn trace(seed: u64) -> Vec<u8> {
-    if Rng::new(seed ^ 0x7472_6163_6573).chance(60) { valid(seed) } else { damaged(seed) }
+/// Valid or damaged, as the key has it.
+pub fn trace(key: u64) -> Vec<u8> {
+    if Rng::new(key ^ 0x7472_6163_6573).chance(60) { valid(key) } else { damaged(key) }
 }
 
 /// A trace of right form with acceptable classes and links. Its events may be refused, and many are.
-pub fn valid(seed: u64) -> Vec<u8> {
-    let mut rng = Rng::new(seed);
+pub fn valid(key: u64) -> Vec<u8> {
+    let mut rng = Rng::new(key);
     let size = match rng.below(20) {
         0 => MAX_BYTES - rng.below(4) as usize,
         1..=3 => rng.between(4_000, 32_000) as usize,
@@ -29,8 +29,8 @@ pub fn valid(seed: u64) -> Vec<u8> {
 
 /// A valid trace that was damaged in one to three ways, or bytes that never were a trace.
 /// Some damage leaves a trace valid.
-pub fn damaged(seed: u64) -> Vec<u8> {
-    let mut rng = Rng::new(seed);
+pub fn damaged(key: u64) -> Vec<u8> {
+    let mut rng = Rng::new(key);
     if rng.chance(2) {
         return damage::noise(&mut rng);
     }
@@ -89,16 +89,16 @@ mod tests {
     use super::*;
 
     #[test]
-    fn a_seed_gives_one_trace() {
-        for seed in 0..50 {
-            assert_eq!(trace(seed), trace(seed));
+    fn a_key_gives_one_trace() {
+        for key in 0..50 {
+            assert_eq!(trace(key), trace(key));
         }
         assert_ne!(valid(1), valid(2));
     }
 
     #[test]
     fn valid_traces_keep_within_the_limit_and_reach_it() {
-        let sizes: Vec<usize> = (0..400).map(|seed| valid(seed).len()).collect();
+        let sizes: Vec<usize> = (0..400).map(|key| valid(key).len()).collect();
         assert!(sizes.iter().all(|size| *size <= MAX_BYTES));
         assert!(sizes.contains(&MAX_BYTES));
         assert!(sizes.contains(&(MAX_BYTES - 1)));

@@ -3,8 +3,8 @@
 pub struct Rng(u64);
 
 impl Rng {
-    pub fn new(seed: u64) -> Self {
-        Rng(seed)
+    pub fn new(key: u64) -> Self {
+        Rng(key)
     }
 
     pub fn random(&mut self) -> u64 {
