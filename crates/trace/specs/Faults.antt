@@ -64,17 +64,22 @@ word-of BadFirstLine = 0
 word-of BadLine = 0
 word-of OutOfPlace = 0
 
+-- a refusal with its layer and word
 abbrev pub misread : Refusal → Misread
 misread e = record { layer = layer-of e; word = word-of e; refusal = e }
 
+-- the same on a line
+abbrev pub on : ℕ → Misread → Fault
+on n m = record { layer = m .layer; line = n; word = m .word; refusal = m .refusal }
+
 -- the fault of a refusal on a line
 abbrev pub fault : ℕ → Refusal → Fault
-fault n e = record { layer = layer-of e; line = n; word = word-of e; refusal = e }
+fault n e = on n (misread e)
 
 -- a result with its line
 abbrev pub placed : {X : Type 0} → ℕ → Result X Misread → Result X Fault
 placed n (Ok x) = Ok x
-placed n (Err m) = Err (record { layer = m .layer; line = n; word = m .word; refusal = m .refusal })
+placed n (Err m) = Err (on n m)
 
 abbrev pub named : Layer → List ℕ
 named Text = codes "text"
