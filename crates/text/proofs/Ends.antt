@@ -47,7 +47,7 @@ spaced-free (w ∷ v ∷ ws) h = all-append _ w (32 ∷ spaced (v ∷ ws)) (h .0
 pub written-free : (l : Line) → Proper l → Free 10 (written l)
 written-free l p = spaced-free ((initial l ∷ []) ∷ fields l) (initial-free 10 (omega arith) l, words-free 10 (omega arith) l p)
 
-title-free : (k : Kind) → Free 10 (title k)
+pub title-free : (k : Kind) → Free 10 (title k)
 title-free Quantum = search needs
 title-free Block = search needs
 

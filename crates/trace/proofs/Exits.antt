@@ -13,7 +13,8 @@ use Rattle.trace.specs.declared.fault.Fault.{Fault}
 use Rattle.trace.specs.declared.fault.Misread.{Misread}
 use Rattle.trace.specs.declared.trace.Trace.{Trace}
 use Rattle.trace.specs.Faults.{on, placed}
-use Rattle.trace.specs.Traces.{Told, Reads}
+use Rattle.trace.specs.Traces.{Told, Judged}
+use Rattle.trace.proofs.Once.{told-once, told-not-written}
 
 module _ {X : Type 0} (n : ℕ) (r : Result X Misread) (s : Result X Fault) (is : s ≡ placed n r) where
   -- the line came on the way: what was below it
@@ -32,8 +33,9 @@ module _ {X : Type 0} (n : ℕ) (r : Result X Misread) (s : Result X Fault) (is 
       go (Err m) h = let same : on n m ≡ f = cc in (m, refl, same)
 
   -- a fault that leaves the reader
-  pub exit : (bs : List ℕ) (out : Result Trace ReadError) (f : Fault) → ErrBy out (λ y. y ≡ faulty f) → s ≡ Err f → ((m : Misread) → r ≡ Err m → Told bs (on n m)) → Reads bs out
+  pub exit : (bs : List ℕ) (out : Result Trace ReadError) (f : Fault) → ErrBy out (λ y. y ≡ faulty f) → s ≡ Err f → ((m : Misread) → r ≡ Err m → Told bs (on n m)) → Judged bs out
   exit bs out f by e told =
       let last = err-from-errBy out by in
       let bad = was-err f e in
-      rw (last .1, last .2) (subst (Told bs) (bad .2) (told (bad .0) (bad .1)))
+      let here : Told bs f = subst (Told bs) (bad .2) (told (bad .0) (bad .1)) in
+      rw (last .1, last .2) (record { told = here; only = λ g there. told-once bs g f there here; none = λ t. told-not-written bs f t here })

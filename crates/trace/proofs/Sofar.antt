@@ -39,7 +39,8 @@ use Rattle.trace.specs.Faults.{misread, on, fault}
 use Rattle.trace.specs.Makings.{Leads, named-by, rate-of, outage-of, event-of}
 use Rattle.trace.specs.Parts.{part, may-follow}
 use Rattle.trace.specs.Readings.{Begun, Rates, Taken, Stepped, Ends, Finished, follows, refused as refused-by}
-use Rattle.trace.specs.Traces.{After, Fine, Takes, Right, misformed, misplaced, refused, Told, wrong, unrated, Linked, Written}
+use Rattle.trace.specs.Traces.{After, Fine, Takes, Right, misformed, misplaced, refused, Told, wrong, unrated, Linked, Written, Accepted}
+use Rattle.trace.proofs.Once.{told-not-written}
 use Rattle.trace.proofs.Orders.{Ordered, ordered-none, ordered-more, next, late}
 
 -- one line more
@@ -187,8 +188,10 @@ module _ (bs : List ℕ) (k : Kind) (rest : List ℕ) (number : ℕ) (s : Readin
         go None none h = subst (λ n. Told bs (on n m)) (old .count) (subst (λ x. Told bs (on (length (old .lines) + 1) x)) (sym (err-same (sym is ∙ h))) (unrated k (old .lines) (s .draft) right-end none))
         go (Some x) rated h = absurd (ok-not-err (sym h ∙ is))
 
-    pub finish-done : (d : Draft) (x : Interrupted FixedLink) (v : Vec Event Global) → r ≡ Ok (d, x) → vec-items v ≡ es → Written bs (record { kind = k; draft = d; link = x; events = v })
-    finish-done d x v is items = go (s .link) (old .link) fin
+    pub finish-done : (d : Draft) (x : Interrupted FixedLink) (v : Vec Event Global) → r ≡ Ok (d, x) → vec-items v ≡ es → Accepted bs (record { kind = k; draft = d; link = x; events = v })
+    finish-done d x v is items =
+        let here = go (s .link) (old .link) fin in
+        record { written = here; faultless = λ f told. told-not-written bs f _ told here }
       where
         go : (y : Option FixedLink) → Rated (old .lines) y → Ends s y r → Written bs (record { kind = k; draft = d; link = x; events = v })
         go None none h = absurd (ok-not-err (sym is ∙ h))

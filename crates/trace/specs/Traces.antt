@@ -80,8 +80,19 @@ pub record Written (bs : List ℕ) (t : Trace) : Type 0 where
   pub linked : Linked lines (t .link)
   pub events : vec-items (t .events) ≡ named-by event-of lines
 
+-- the text writes the trace t, and has no fault
+pub record Accepted (bs : List ℕ) (t : Trace) : Type 0 where
+  pub written : Written bs t
+  pub faultless : (f : Fault) → Told bs f → ⊥
+
+-- f is the first fault of the text: no other is, and the text writes no trace
+pub record Faulted (bs : List ℕ) (f : Fault) : Type 0 where
+  pub told : Told bs f
+  pub only : (g : Fault) → Told bs g → g ≡ f
+  pub none : (t : Trace) → Written bs t → ⊥
+
 -- r is the trace that the text writes, or its first fault, or memory was wanting
-abbrev pub Reads : List ℕ → Result Trace ReadError → Type 0
-Reads bs (Ok t) = Written bs t
-Reads bs (Err (faulty f)) = Told bs f
-Reads bs (Err NoMemory) = Unit {0}
+abbrev pub Judged : List ℕ → Result Trace ReadError → Type 0
+Judged bs (Ok t) = Accepted bs t
+Judged bs (Err (faulty f)) = Faulted bs f
+Judged bs (Err NoMemory) = Unit {0}

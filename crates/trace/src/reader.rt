@@ -10,7 +10,7 @@ ghost use Rattle.std.specs.Of.Vec.{vec-items};
 ghost use Rattle.std.specs.Vec.{listOf};
 ghost use Rattle.trace.specs.declared.error.ReadError.the-variants.{NoMemory};
 ghost use Rattle.trace.specs.Faults.{misread};
-ghost use Rattle.trace.specs.Traces.{Reads};
+ghost use Rattle.trace.specs.Traces.{Judged};
 use crate::error::ReadError;
 use crate::error::ReadErrorFromFault;
 use crate::error::ReadErrorFromRefused;
@@ -60,7 +60,7 @@ fn keep<'a>(events: &mut Vec<Event<'a>>, event: Option<Event<'a>>) -> Result<(),
 
 /// The trace that the text writes; or its first fault, or want of memory.
 pub fn read(heap: Global, text: &[u8]) -> Result<Trace<'_>, ReadError>
-    ensures { λ r. ⌜ Reads (now (text .entry)) r ⌝ }
+    ensures { λ r. ⌜ Judged (now (text .entry)) r ⌝ }
 {
     check_length(text).on_line(0)?;
     let (kind, lines) = title(text).on_line(1)?;
