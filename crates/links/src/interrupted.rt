@@ -32,17 +32,6 @@ impl<S> Interrupted<S> {
         }
     }
 
-    /// A link with these outages that has counted no draw.
-    pub fn with_outages(below: S, outages: Outages) -> Interrupted<S>
-        ensures { λ r. ⌜ (r .below ≡ below) × (r .outages ≡ outages) × (r .count ≡ 0) ⌝ }
-    {
-        Interrupted {
-            below,
-            outages,
-            count: 0,
-        }
-    }
-
     /// Adds an outage behind those that stand. Refused are a length of 0, an offset below the end of the last outage, an
     /// end above 4,294,967,295, and a 17th outage.
     pub fn add_outage(&mut self, offset: u32, length: u32) -> Result<(), Refusal>

@@ -5,7 +5,7 @@ use text::line::Line;
 
 /// After the first line: the classes, then the one line of the link, then the outages, then the events.
 #[derive(Clone, Copy, PartialEq, Eq, PartialOrd, Ord, Debug)]
-pub enum Part {
+pub(crate) enum Part {
     Classes,
     Link,
     Outages,
@@ -13,7 +13,7 @@ pub enum Part {
 }
 
 /// The part that a line belongs to.
-pub fn part_of(line: &Line<'_>) -> Part
+pub(crate) fn part_of(line: &Line<'_>) -> Part
     ensures { λ r. ⌜ r ≡ part (now (line .entry)) ⌝ }
 {
     match line {
@@ -26,7 +26,7 @@ pub fn part_of(line: &Line<'_>) -> Part
 
 impl Part {
     /// Whether a line of this part may stand after one of an earlier line's part: of no later part, and no second link.
-    pub fn may_follow(self, earlier: Part) -> bool
+    pub(crate) fn may_follow(self, earlier: Part) -> bool
         ensures { λ r. ⌜ r ≡ may-follow self earlier ⌝ }
     {
         earlier < self || (earlier == self && self != Part::Link)

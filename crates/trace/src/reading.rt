@@ -4,11 +4,11 @@ use classes::draft::Draft;
 use links::fixed::FixedLink;
 use links::outages::Outages;
 
-pub mod steps;
+mod steps;
 
 /// What the lines so far have made, and the part that the last one belongs to.
 #[derive(Drop)]
-pub struct Reading {
+pub(crate) struct Reading {
     draft: Draft,
     link: Option<FixedLink>,
     outages: Outages,

@@ -25,7 +25,7 @@ const NO_CLASS: u8 = 64;
 
 impl Reading {
     /// The root alone, and no link.
-    pub fn new() -> Reading
+    pub(crate) fn new() -> Reading
         ensures { λ r. ⌜ Begun r ⌝ }
     {
         Reading {
@@ -77,7 +77,7 @@ impl Reading {
     }
 
     /// Judges a line, first by its form, then by its part, then by what the tree or the link says; and takes it.
-    pub fn step<'a>(
+    pub(crate) fn step<'a>(
         &mut self,
         line: Result<Line<'a>, Refusal>,
     ) -> Result<Option<Event<'a>>, Misread>
@@ -89,7 +89,7 @@ impl Reading {
     }
 
     /// The draft and the link, if there is a rate.
-    pub fn finish(self) -> Result<(Draft, Interrupted<FixedLink>), Misread>
+    pub(crate) fn finish(self) -> Result<(Draft, Interrupted<FixedLink>), Misread>
         ensures { λ r. ⌜ Finished self r ⌝ }
     {
         let Reading {
