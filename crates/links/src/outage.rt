@@ -10,7 +10,7 @@ pub struct Outage {
 }
 
 impl Outage {
-    pub fn covers(self, count: u32) -> bool
+    pub(crate) fn covers(self, count: u32) -> bool
         ensures { λ r. ⌜ r ≡ covers self count ⌝ }
     {
         self.offset <= count && count - self.offset < self.length

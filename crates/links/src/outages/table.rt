@@ -10,7 +10,7 @@ use crate::outages::Outages;
 use base::refusal::Refusal;
 
 impl Outages {
-    pub fn new() -> Outages
+    pub(crate) fn new() -> Outages
         ensures { λ r. ⌜ listed r ≡ [] ⌝ }
     {
         Outages {
@@ -23,7 +23,7 @@ impl Outages {
     }
 
     /// The outages, the earliest first.
-    pub fn as_slice(&self) -> &[Outage]
+    fn as_slice(&self) -> &[Outage]
         ensures { λ r. ⌜ now r ≡ listed (now (self .entry)) ⌝ }
     {
         &self.table[..self.used]
@@ -51,7 +51,7 @@ impl Outages {
     }
 
     /// Adds the outage behind those that stand, or refuses it.
-    pub fn add(&mut self, outage: Outage) -> Result<(), Refusal>
+    pub(crate) fn add(&mut self, outage: Outage) -> Result<(), Refusal>
         ensures { λ r. ⌜ Cases r
             (λ _. (fits (listed (now (self .entry))) outage ≡ true) × (listed (now (self .exit)) ≡ listed (now (self .entry)) ++ outage ∷ []))
             (λ e. (e ≡ Refusal.BadOutage) × (fits (listed (now (self .entry))) outage ≡ false) × (now (self .exit) ≡ now (self .entry))) ⌝ }
@@ -65,7 +65,7 @@ impl Outages {
     }
 
     /// Whether the draw of that count falls into an outage.
-    pub fn cover(&self, count: u32) -> bool
+    pub(crate) fn cover(&self, count: u32) -> bool
         ensures { λ r. ⌜ r ≡ covered (listed (now (self .entry))) count ⌝ }
     {
         for outage in self.as_slice() {

@@ -1,0 +1,2 @@
+mod Lexed
+mod Reading

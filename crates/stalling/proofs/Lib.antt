@@ -1,0 +1,4 @@
+mod Played
+mod Printed
+mod Timed
+mod Told

@@ -1,0 +1,4 @@
+pub mod Draws
+pub mod Listings
+pub mod Plays
+pub mod Timetables
