@@ -4,3 +4,4 @@ mod Rows
 mod Start
 pub mod Tables
 mod Growth
+pub mod Children

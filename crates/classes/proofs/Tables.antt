@@ -1,21 +1,21 @@
 -- What a class table's fields say.
-use mathlib.Core.Path.{_≡_, sym, _∙_}
+use mathlib.Core.Path.{_≡_, sym, ap, _∙_}
 use mathlib.Core.Logic.{inl, inr}
 use mathlib.Core.List.{List}
-use Prim.Native.Nat.{ℕ, _<_, _≤_}
+use Prim.Native.Nat.{ℕ, suc, _<_, _≤_}
 use native.Mathlib.Omega.{arith}
 use lib.ListN.{getD}
 use Rattle.std.specs.declared.option.Option.the-variants.{Some, None}
 use Rattle.std.proofs.shelf.Lists.{getD-default}
-use Rattle.std.proofs.shelf.Tests.{cases-order}
-use Rattle.rules.specs.Shape.{Sound}
+use Rattle.std.proofs.shelf.Tests.{cases-lt, cases-order}
+use Rattle.rules.specs.Shape.{Sound, climb}
 use Rattle.classes.specs.Rows.{blank, row}
-use Rattle.classes.specs.Shapes.{child-below}
+use Rattle.classes.specs.Shapes.{depth, child-below}
 use Rattle.classes.specs.Tables.{shape-of, weight-of, name-of, named, Finds}
 use Rattle.classes.specs.declared.class.Class.{Class}
 use Rattle.classes.specs.declared.table.ClassTable.{ClassTable}
 use Rattle.classes.proofs.Rows.{same-is, none-named, named-none, one-named}
-use Rattle.classes.proofs.Shapes.{below-none, no-child, climb-depth}
+use Rattle.classes.proofs.Shapes.{below-none, no-child, depth-up, climb-depth}
 
 module _ (t : ClassTable) where
   -- the classes hang together as the rules ask
@@ -27,6 +27,15 @@ module _ (t : ClassTable) where
     earlier = t .earlier;
     shallow = λ k l. climb-depth (shape-of t) (t .root) (t .earlier) 7 k (omega (arith, t .shallow k, t .deep k l));
   }
+
+  -- seven steps lead to the root from every number
+  pub climb-all : (k : ℕ) → climb (shape-of t) 7 k ≡ 0
+  climb-all k = elim (cases-lt k (t .len)) [
+    | inl l ↦ shape-sound .shallow k l
+    | inr l ↦
+        let one = depth-up (shape-of t) (t .root) (t .earlier) k (omega (arith, t .some)) ∙ ap (λ p. suc (depth (shape-of t) p)) (t .unused k l) in
+        climb-depth (shape-of t) (t .root) (t .earlier) 7 k (omega (arith, one))
+  ]
 
   -- and weigh what the rules allow
   pub weights-valid : (k : ℕ) → (1 ≤ weight-of t k) × (weight-of t k ≤ 16)

@@ -26,6 +26,10 @@ name-of t k = name-at (t .classes) k
 abbrev pub class-of : ClassTable → ℕ → Option Class
 class-of t k = cond (ltb k (t .len)) (Some (row (t .classes) k)) None
 
+-- the bytes of its name, or none
+abbrev pub name-by : ClassTable → ℕ → Option (List ℕ)
+name-by t k = cond (ltb k (t .len)) (Some (name-of t k)) None
+
 -- the node above class k: none for the root and for a number that no class has
 abbrev pub node-above : ClassTable → ℕ → Option ℕ
 node-above t k = cond (ltb 0 k && ltb k (t .len)) (Some (shape-of t .parent k)) None

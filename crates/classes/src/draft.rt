@@ -1,16 +1,19 @@
 //! A tree before it is opened.
 ghost use mathlib.Core.Path.{_≡_};
-ghost use Prim.Native.Nat.{ℕ};
+ghost use Prim.Native.Nat.{ℕ, _≤_};
 ghost use Rattle.std.specs.Results.{Cases};
+ghost use Rattle.rules.specs.Shape.{Sound};
 ghost use Rattle.classes.specs.Additions.{addition, Grown};
 ghost use Rattle.classes.specs.Rows.{row, Alone};
-ghost use Rattle.classes.specs.Tables.{named, Finds};
+ghost use Rattle.classes.specs.Tables.{shape-of, weight-of, named, Finds};
 use crate::name::Name;
 use crate::table::ClassTable;
+use crate::table::MAX_CLASSES;
+use crate::table::MAX_DEPTH;
 use base::refusal::Refusal;
 use base::weight::Weight;
 
-/// The classes of a tree that is being drawn up, and its house number.
+/// A house number and the classes so far. Opening a tree uses it up.
 #[derive(Drop)]
 pub struct Draft {
     house: u32,
@@ -37,7 +40,7 @@ impl Draft {
             (λ _. (now (self .exit) .house ≡ now (self .entry) .house) × Grown (now (self .entry) .table) parent weight (now (name .entry)) (now (self .exit) .table))
             (λ _. now (self .exit) ≡ now (self .entry)) ⌝ }
     {
-        if self.table.len() >= 64 {
+        if self.table.len() >= MAX_CLASSES {
             return Err(Refusal::TreeFull);
         }
         let name = Name::new(name)?;
@@ -47,7 +50,7 @@ impl Draft {
         let Some(above) = self.table.class(parent) else {
             return Err(Refusal::UnknownParent);
         };
-        if above.depth >= 7 {
+        if above.depth >= MAX_DEPTH {
             return Err(Refusal::TooDeep);
         }
         let weight = Weight::new(weight)?;
@@ -68,15 +71,11 @@ impl Draft {
         self.house
     }
 
-    pub fn table(&self) -> &ClassTable
-        ensures { λ r. ⌜ now r ≡ now (self .entry) .table ⌝ }
-    {
-        &self.table
-    }
-
-    /// What a tree is opened from. It uses up the draft.
+    /// What a tree is opened from: the house number and the classes, which hang together and weigh as the rules ask.
     pub fn into_parts(self) -> (u32, ClassTable)
-        ensures { λ r. ⌜ r ≡ (self .house, self .table) ⌝ }
+        ensures value { λ r. ⌜ r ≡ (self .house, self .table) ⌝ }
+        ensures sound { λ r. ⌜ Sound (shape-of (r .1)) ⌝ }
+        ensures weights { λ r. ⌜ ((k : ℕ) → (1 ≤ weight-of (r .1) k) × (weight-of (r .1) k ≤ 16)) ⌝ }
     {
         let Draft { house, table } = self;
         (house, table)

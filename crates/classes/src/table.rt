@@ -12,11 +12,17 @@ use crate::class::Class;
 pub mod growth;
 pub mod reading;
 
+/// The most classes that a tree has.
+pub const MAX_CLASSES: usize = 64;
+
+/// The greatest depth of a class; the root has depth 0.
+pub const MAX_DEPTH: u8 = 7;
+
 /// Up to 64 classes. Class 0 is the root; each other class comes after its parent, at most 7 steps from the root, under a
 /// name of its own. Rows that no class has yet stay as the root's was when it stood alone.
 #[derive(Drop)]
 pub struct ClassTable {
-    classes: [Class; 64],
+    classes: [Class; MAX_CLASSES],
     len: usize,
     ghost size: { length classes ≡ 64 },
     ghost some: { 1 ≤ len },

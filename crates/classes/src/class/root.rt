@@ -6,7 +6,7 @@ use base::weight::Weight;
 
 impl Class {
     /// The root, with no children yet.
-    pub fn root() -> Class
+    pub(crate) fn root() -> Class
         ensures { λ r. ⌜ Alone r ⌝ }
     {
         Class {

@@ -78,6 +78,8 @@ pub impl PartialEq<Name> for Name as NamePartialEq {
     }
 }
 
+pub impl Eq for Name as NameEq {}
+
 pub impl fmt::Display for Name as NameDisplay {
     ghost shown = { λ n. Some (text-of n) };
 

@@ -11,6 +11,7 @@ ghost use Rattle.classes.specs.Tables.{shape-of, named};
 use crate::class::Class;
 use crate::name::Name;
 use crate::table::ClassTable;
+use crate::table::MAX_CLASSES;
 use base::weight::Weight;
 
 impl ClassTable {
@@ -20,7 +21,7 @@ impl ClassTable {
         ensures rows { λ r. ⌜ ((k : ℕ) → Alone (row (r .classes) k)) ⌝ }
     {
         ClassTable {
-            classes: [Class::root(); 64],
+            classes: [Class::root(); MAX_CLASSES],
             len: 1,
         }
     }

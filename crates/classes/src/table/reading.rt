@@ -1,12 +1,12 @@
 //! What can be read off a class table.
 ghost use mathlib.Core.Path.{_≡_};
-ghost use mathlib.Core.Bool.{true};
 ghost use Rattle.rules.specs.Shape.{leaf};
 ghost use Rattle.std.specs.Options.{mapped};
 ghost use Rattle.classes.specs.Names.{text-of};
 ghost use Rattle.classes.specs.Shapes.{child-below};
-ghost use Rattle.classes.specs.Tables.{shape-of, class-of, node-above, sibling-below, named, Finds};
+ghost use Rattle.classes.specs.Tables.{shape-of, class-of, name-by, node-above, sibling-below, named, Finds};
 use crate::class::Class;
+use crate::name::Name;
 use crate::table::ClassTable;
 
 impl ClassTable {
@@ -62,6 +62,16 @@ impl ClassTable {
         ensures { λ r. ⌜ r ≡ leaf (shape-of (now (self .entry))) number ⌝ }
     {
         self.first_child(number).is_none()
+    }
+
+    /// The name of the class of that number.
+    pub fn name(&self, number: u8) -> Option<Name>
+        ensures { λ r. ⌜ mapped text-of r ≡ name-by (now (self .entry)) number ⌝ }
+    {
+        match self.class(number) {
+            Some(class) => Some(class.name),
+            None => None,
+        }
     }
 
     /// The class of that name.
