@@ -64,17 +64,11 @@ pub impl<T> OnLine for Result<T, Misread> as ResultOnLine {
     fn on_line(self, line: u32) -> Result<T, Fault> {
         match self {
             Ok(value) => Ok(value),
-            Err(
-                Misread {
-                    layer,
-                    word,
-                    refusal,
-                },
-            ) => Err(Fault {
-                layer,
+            Err(misread) => Err(Fault {
+                layer: misread.layer,
                 line,
-                word,
-                refusal,
+                word: misread.word,
+                refusal: misread.refusal,
             }),
         }
     }
