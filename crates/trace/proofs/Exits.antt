@@ -8,12 +8,12 @@ use Rattle.std.specs.declared.result.Result.the-variants.{Ok, Err}
 use Rattle.std.specs.Results.{ErrBy}
 use Rattle.std.proofs.shelf.Results.{err-from-errBy}
 use Rattle.trace.specs.declared.error.ReadError.{ReadError}
-use Rattle.trace.specs.declared.error.ReadError.the-variants.{Fault as faulty}
+use Rattle.trace.specs.declared.error.ReadError.the-variants.{Fault as faulty, NoMemory}
 use Rattle.trace.specs.declared.fault.Fault.{Fault}
 use Rattle.trace.specs.declared.fault.Misread.{Misread}
 use Rattle.trace.specs.declared.trace.Trace.{Trace}
 use Rattle.trace.specs.Faults.{on, placed}
-use Rattle.trace.specs.Traces.{Told, Judged}
+use Rattle.trace.specs.Traces.{Told, Wanting, Judged}
 use Rattle.trace.proofs.Once.{told-once, told-not-written}
 
 module _ {X : Type 0} (n : ℕ) (r : Result X Misread) (s : Result X Fault) (is : s ≡ placed n r) where
@@ -39,3 +39,9 @@ module _ {X : Type 0} (n : ℕ) (r : Result X Misread) (s : Result X Fault) (is 
       let bad = was-err f e in
       let here : Told bs f = subst (Told bs) (bad .2) (told (bad .0) (bad .1)) in
       rw (last .1, last .2) (record { told = here; only = λ g there. told-once bs g f there here; none = λ t. told-not-written bs f t here })
+
+-- want of memory that leaves the reader
+pub exit-wanting : (bs : List ℕ) (out : Result Trace ReadError) (e : ReadError) → ErrBy out (λ y. y ≡ e) → e ≡ NoMemory → Wanting bs → Judged bs out
+exit-wanting bs out e by is wanting =
+    let last = err-from-errBy out by in
+    rw (last .1, last .2, is) wanting

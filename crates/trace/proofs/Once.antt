@@ -1,8 +1,7 @@
 -- A text has one first fault, and none where it writes a trace.
 use mathlib.Core.Path.{_≡_, refl, sym, ap, subst, _∙_}
-use mathlib.Core.Bool.{true}
 use mathlib.Core.List.{List, [], _∷_, _++_, map, append-nil, append-assoc}
-use Prim.Native.Nat.{ℕ, _+_, _<_}
+use Prim.Native.Nat.{ℕ, _+_}
 use native.Mathlib.Omega.{arith}
 use lib.ListN.{length, length-append}
 use Rattle.base.specs.declared.refusal.Refusal.{Refusal}
@@ -16,14 +15,12 @@ use Rattle.std.proofs.shelf.Lists.{length-map, map-append}
 use Rattle.text.specs.declared.kind.Kind.{Kind}
 use Rattle.text.specs.declared.line.Line.{Line}
 use Rattle.text.specs.declared.line.Line.the-variants.{Class, Link, Outage, Event as event}
-use Rattle.text.specs.Kinds.{title}
 use Rattle.text.specs.Lines.{written, Proper}
 use Rattle.text.specs.Texts.{ended}
 use Rattle.text.proofs.Ends.{cut-once, title-free, written-free}
 use Rattle.text.proofs.Forms.{heads, tails}
 use Rattle.text.proofs.Once.{said, written-once}
 use Rattle.trace.specs.declared.fault.Fault.{Fault}
-use Rattle.trace.specs.declared.part.Part.{Part}
 use Rattle.trace.specs.declared.trace.Trace.{Trace}
 use Rattle.trace.specs.Faults.{fault}
 use Rattle.trace.specs.Makings.{named-by, outage-of, rate-of, refusal}

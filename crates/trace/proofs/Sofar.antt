@@ -3,7 +3,7 @@ use mathlib.Core.Path.{_≡_, refl, sym, ap, subst, _∙_}
 use mathlib.Core.Bool.{true, false}
 use mathlib.Core.List.{List, [], _∷_, _++_, append-nil, append-assoc}
 use mathlib.Core.Logic.{⊎-elim}
-use Prim.Native.Nat.{ℕ, _+_, _≤_}
+use Prim.Native.Nat.{ℕ, _+_, _≤_, _<_}
 use native.Mathlib.Omega.{arith}
 use lib.ListN.{length, length-append}
 use Rattle.base.specs.declared.refusal.Refusal.{Refusal}
@@ -31,7 +31,7 @@ use Rattle.text.specs.declared.line.Line.{Line}
 use Rattle.text.specs.declared.line.Line.the-variants.{Class, Link, Outage, Event as event}
 use Rattle.text.specs.Kinds.{title}
 use Rattle.text.specs.Lines.{written, Proper}
-use Rattle.text.specs.Texts.{ended, Faulty}
+use Rattle.text.specs.Texts.{ended, Gives}
 use Rattle.text.proofs.Ends.{shorter}
 use Rattle.trace.specs.declared.fault.Misread.{Misread}
 use Rattle.trace.specs.declared.reading.Reading.{Reading}
@@ -39,7 +39,7 @@ use Rattle.trace.specs.Faults.{misread, on, fault}
 use Rattle.trace.specs.Makings.{Leads, named-by, rate-of, outage-of, event-of}
 use Rattle.trace.specs.Parts.{part, may-follow}
 use Rattle.trace.specs.Readings.{Begun, Rates, Taken, Stepped, Ends, Finished, follows, refused as refused-by}
-use Rattle.trace.specs.Traces.{After, Fine, Takes, Right, misformed, misplaced, refused, Told, wrong, unrated, Linked, Written, Accepted}
+use Rattle.trace.specs.Traces.{After, Fine, Takes, Right, misformed, misplaced, refused, Told, wrong, unrated, Linked, Written, Accepted, Wanting}
 use Rattle.trace.proofs.Once.{told-not-written}
 use Rattle.trace.proofs.Orders.{Ordered, ordered-none, ordered-more, next, late}
 
@@ -157,7 +157,7 @@ module _ (bs : List ℕ) (k : Kind) (rest : List ℕ) (number : ℕ) (s : Readin
 
   -- a step over the next line, and what it answered
   module _ (more : List ℕ) (t : Reading) (r : Result (Option Event) Misread) where
-    pub step-told : (line : Result Line Refusal) → results.Cases line (λ l. Proper l × (rest ≡ written l ++ 10 ∷ more)) (λ e. (e ≡ BadLine) × Faulty rest) → Stepped s line r t → (m : Misread) → r ≡ Err m → Told bs (on (number + 1) m)
+    pub step-told : (line : Result Line Refusal) → Gives rest more line → Stepped s line r t → (m : Misread) → r ≡ Err m → Told bs (on (number + 1) m)
     step-told (Err e) form h m is =
         at-next BadLine m (err-same (sym is ∙ h) ∙ ap misread (form .0)) (wrong k (old .lines) rest (s .draft) BadLine (old .right) (misformed (form .1)))
     step-told (Ok l) form h m is =
@@ -168,13 +168,19 @@ module _ (bs : List ℕ) (k : Kind) (rest : List ℕ) (number : ℕ) (s : Readin
         (λ w. at-next OutOfPlace m (err-same (sym is ∙ w .1)) (told-place l more (form .1) (form .0) (w .0)))
         h
 
-    pub step-more : (line : Result Line Refusal) → results.Cases line (λ l. Proper l × (rest ≡ written l ++ 10 ∷ more)) (λ e. (e ≡ BadLine) × Faulty rest) → Stepped s line r t → (o : Option Event) → r ≡ Ok o → (es′ : List Event) → es′ ≡ es ++ listOf o → Sofar bs k more (number + 1) t es′
+    pub step-more : (line : Result Line Refusal) → Gives rest more line → Stepped s line r t → (o : Option Event) → r ≡ Ok o → (es′ : List Event) → es′ ≡ es ++ listOf o → Sofar bs k more (number + 1) t es′
     step-more (Err e) form h o is es′ pushed = absurd (ok-not-err (sym is ∙ h))
     step-more (Ok l) form h o is es′ pushed =
         ⊎-elim
         (λ w. one-more l more (form .1) (form .0) o t es′ (w .0) (cases-at-ok _ _ o is (w .1)) pushed)
         (λ w. absurd (ok-not-err (sym is ∙ w .1)))
         h
+
+    -- memory was wanting for the line's event
+    pub step-wanting : (line : Result Line Refusal) → Gives rest more line → Stepped s line r t → (o : Option Event) → r ≡ Ok o → 0 < length (listOf o) → Wanting bs
+    step-wanting line form h o is some =
+        let new = step-more line form h o is (es ++ listOf o) refl in
+        record { kind = k; lines = new .lines; rest = more; draft = t .draft; right = new .right; some = omega (arith, some, length-append es (listOf o), ap length (new .events)) }
 
   -- the end of the text
   module _ (end : rest ≡ []) (r : Result (Draft × Interrupted FixedLink) Misread) (fin : Finished s r) where

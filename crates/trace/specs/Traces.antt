@@ -91,8 +91,17 @@ pub record Faulted (bs : List ℕ) (f : Fault) : Type 0 where
   pub only : (g : Fault) → Told bs g → g ≡ f
   pub none : (t : Trace) → Written bs t → ⊥
 
+-- memory was wanting: the lines so far are right and have an event to be kept
+pub record Wanting (bs : List ℕ) : Type 0 where
+  pub kind : Kind
+  pub lines : List Line
+  pub rest : List ℕ
+  pub draft : Draft
+  pub right : Right bs kind lines rest draft
+  pub some : 0 < length (named-by event-of lines)
+
 -- r is the trace that the text writes, or its first fault, or memory was wanting
 abbrev pub Judged : List ℕ → Result Trace ReadError → Type 0
 Judged bs (Ok t) = Accepted bs t
 Judged bs (Err (faulty f)) = Faulted bs f
-Judged bs (Err NoMemory) = Unit {0}
+Judged bs (Err NoMemory) = Wanting bs

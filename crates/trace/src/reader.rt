@@ -50,7 +50,7 @@ fn title(text: &[u8]) -> Result<(Kind, Lines<'_>), Misread>
 
 /// Puts an event, if there is one, behind the others.
 fn keep<'a>(events: &mut Vec<Event<'a>>, event: Option<Event<'a>>) -> Result<(), ReadError>
-    ensures { λ r. ⌜ Cases r (λ _. vec-items (now (events .exit)) ≡ vec-items (now (events .entry)) ++ listOf (event .entry)) (λ e. e ≡ NoMemory) ⌝ }
+    ensures { λ r. ⌜ Cases r (λ _. vec-items (now (events .exit)) ≡ vec-items (now (events .entry)) ++ listOf (event .entry)) (λ e. (e ≡ NoMemory) × (0 < length (listOf (event .entry)))) ⌝ }
 {
     if let Some(event) = event {
         events.push(event)?;

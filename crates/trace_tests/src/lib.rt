@@ -21,7 +21,14 @@ mod tests {
     // The fault of a text as it is written, or its numbers of classes and events.
     fn verdict(heap: Global, text: &[u8]) -> Result<String, Fail> {
         match read(heap, text) {
-            Ok(Trace { kind: _, draft, link: _, events }) => {
+            Ok(
+                Trace {
+                    kind: _,
+                    draft,
+                    link: _,
+                    events,
+                },
+            ) => {
                 let classes = draft.into_parts().1.len();
                 let events = events.len();
                 Ok(format!(heap, "{classes} {events}")?)
@@ -39,39 +46,47 @@ mod tests {
         Ok(())
     }
 
-    fn judge(heap: Global, lines: &str, expected: &str) -> Result<(), Fail> {
+    // The verdict on two pieces of text, one after the other.
+    fn judge(heap: Global, first: &str, lines: &str, expected: &str) -> Result<(), Fail> {
         let mut text = Vec::new(heap);
+        write(&mut text, first)?;
         write(&mut text, lines)?;
         let got = verdict(heap, text.as_slice())?;
         check_eq(got.as_str(), expected).note(lines)
     }
 
-    // The same behind a first line and a rate.
-    fn judge_after(heap: Global, lines: &str, expected: &str) -> Result<(), Fail> {
-        let mut text = Vec::new(heap);
-        write(&mut text, "sfq1 block/l 8/")?;
-        write(&mut text, lines)?;
-        let got = verdict(heap, text.as_slice())?;
-        check_eq(got.as_str(), expected).note(lines)
+    fn judge_each(heap: Global, cases: &[(&str, &str)]) -> Result<(), Fail> {
+        for (lines, expected) in cases {
+            judge(heap, "", lines, expected)?;
+        }
+        Ok(())
     }
 
-    #[test]
-    fn right_traces(rt: LibcRuntime) -> Result<(), Fail> {
-        for (lines, expected) in [
-            ("sfq1 quantum/l 1/", "1 0"),
-            ("sfq1 block/l 65535/d/p/e/g/", "1 4"),
-            ("sfq1 block/c a root 1/c b a 16/l 8/a b 0/a nobody1234 4294967295/", "3 2"),
-            ("sfq1 block/l 8/o 0 4294967295/d/", "1 1"),
-            ("sfq1 block/l 8/o 0 2/o 2 1/o 4294967294 1/", "1 0"),
-        ] {
-            judge(rt.alloc(), lines, expected)?;
+    fn judge_all(heap: Global, first: &str, all: &[&str], expected: &str) -> Result<(), Fail> {
+        for lines in all {
+            judge(heap, first, lines, expected)?;
         }
         Ok(())
     }
 
     #[test]
+    fn right_traces(rt: LibcRuntime) -> Result<(), Fail> {
+        let cases = [
+            ("sfq1 quantum/l 1/", "1 0"),
+            ("sfq1 block/l 65535/d/p/e/g/", "1 4"),
+            (
+                "sfq1 block/c a root 1/c b a 16/l 8/a b 0/a nobody1234 4294967295/",
+                "3 2",
+            ),
+            ("sfq1 block/l 8/o 0 4294967295/d/", "1 1"),
+            ("sfq1 block/l 8/o 0 2/o 2 1/o 4294967294 1/", "1 0"),
+        ];
+        judge_each(rt.alloc(), &cases)
+    }
+
+    #[test]
     fn first_lines(rt: LibcRuntime) -> Result<(), Fail> {
-        for lines in [
+        let all = [
             "",
             "/",
             "sfq1 quantum",
@@ -80,21 +95,50 @@ mod tests {
             "sfq1 block /l 8/",
             "sfq2 block/l 8/",
             "l 8/sfq1 block/",
-        ] {
-            judge(rt.alloc(), lines, "! text 1 0 20")?;
-        }
-        Ok(())
+        ];
+        judge_all(rt.alloc(), "", &all, "! text 1 0 20")
     }
 
     #[test]
     fn wrong_forms(rt: LibcRuntime) -> Result<(), Fail> {
-        for lines in [
-            "/d/", "d", "d 1/", "d /", " d/", "D/", "add x 1/", "x/", "dd/", "a film/", "a film 1 1/",
-            "a  film 1/", "a film 01/", "a film 4294967296/", "a film -1/", "a film +1/", "a film x/",
-            "a film-1 1/", "a abcdefghijk 1/", "c a root/", "c a root 00/", "l/", "l 08/", "o 1/", "o 1 2 3/",
-        ] {
-            judge_after(rt.alloc(), lines, "! text 3 0 21")?;
-        }
+        let all = [
+            "/d/",
+            "d",
+            "d 1/",
+            "d /",
+            " d/",
+            "D/",
+            "add x 1/",
+            "x/",
+            "dd/",
+            "a film/",
+            "a film 1 1/",
+            "a  film 1/",
+            "a film 01/",
+            "a film 4294967296/",
+            "a film -1/",
+            "a film +1/",
+            "a film x/",
+            "a film-1 1/",
+            "a abcdefghijk 1/",
+            "c a root/",
+            "c a root 00/",
+            "l/",
+            "l 08/",
+            "o 1/",
+            "o 1 2 3/",
+        ];
+        judge_all(rt.alloc(), "sfq1 block/l 8/", &all, "! text 3 0 21")?;
+        judge_all(
+            rt.alloc(),
+            "sfq1 block/l 8/d/p/",
+            &["e/q/"],
+            "! text 6 0 21",
+        )
+    }
+
+    #[test]
+    fn other_bytes(rt: LibcRuntime) -> Result<(), Fail> {
         for byte in [0, 11, 13, b'A', b'{', 127, 128, 195, 255] {
             let mut text = Vec::new(rt.alloc());
             write(&mut text, "sfq1 block/l 8/d/a fi")?;
@@ -103,12 +147,12 @@ mod tests {
             let got = verdict(rt.alloc(), text.as_slice())?;
             check_eq(got.as_str(), "! text 4 0 21")?;
         }
-        judge(rt.alloc(), "sfq1 block/l 8/d/p/e/q/", "! text 6 0 21")
+        Ok(())
     }
 
     #[test]
     fn parts(rt: LibcRuntime) -> Result<(), Fail> {
-        for (lines, expected) in [
+        let cases = [
             ("sfq1 block/", "! text 1 0 22"),
             ("sfq1 block/c a root 1/c b root 1/", "! text 3 0 22"),
             ("sfq1 block/o 1 1/d/", "! text 3 0 22"),
@@ -118,15 +162,13 @@ mod tests {
             ("sfq1 block/o 1 1/l 8/", "! text 3 0 22"),
             ("sfq1 block/d/l 8/", "! text 3 0 22"),
             ("sfq1 block/o 1 1/c a root 1/l 8/", "! text 3 0 22"),
-        ] {
-            judge(rt.alloc(), lines, expected)?;
-        }
-        Ok(())
+        ];
+        judge_each(rt.alloc(), &cases)
     }
 
     #[test]
     fn trees_and_links(rt: LibcRuntime) -> Result<(), Fail> {
-        for (lines, expected) in [
+        let cases = [
             ("sfq1 block/c a b 1/", "! tree 2 3 12"),
             ("sfq1 block/c a a 1/", "! tree 2 3 12"),
             ("sfq1 block/c a abcdefghi 1/", "! tree 2 3 12"),
@@ -136,21 +178,22 @@ mod tests {
             ("sfq1 block/c abcdefghij root 1/", "! tree 2 2 14"),
             ("sfq1 block/c root root 1/", "! tree 2 2 15"),
             ("sfq1 block/c a root 1/c a a 1/", "! tree 3 2 15"),
-            ("sfq1 block/c a root 1/c b a 1/c c b 1/c d c 1/c e d 1/c f e 1/c g f 1/c h g 1/", "! tree 9 3 16"),
+            (
+                "sfq1 block/c a root 1/c b a 1/c c b 1/c d c 1/c e d 1/c f e 1/c g f 1/c h g 1/",
+                "! tree 9 3 16",
+            ),
             ("sfq1 block/l 8/o 5 0/", "! link 3 0 17"),
             ("sfq1 block/l 8/o 4294967295 1/", "! link 3 0 17"),
             ("sfq1 block/l 8/o 0 2/o 1 1/", "! link 4 0 17"),
             ("sfq1 block/l 0/", "! link 2 2 18"),
             ("sfq1 block/l 65536/", "! link 2 2 18"),
-        ] {
-            judge(rt.alloc(), lines, expected)?;
-        }
-        Ok(())
+        ];
+        judge_each(rt.alloc(), &cases)
     }
 
     #[test]
     fn first_of_several(rt: LibcRuntime) -> Result<(), Fail> {
-        for (lines, expected) in [
+        let cases = [
             ("sfq2 block/x/", "! text 1 0 20"),
             ("sfq1 block/l 8/l 08/", "! text 3 0 21"),
             ("sfq1 block/l 8/c root nobody 0/", "! text 3 0 22"),
@@ -159,15 +202,16 @@ mod tests {
             ("sfq1 block/c abcdefghi nobody 0/", "! tree 2 2 14"),
             ("sfq1 block/c root nobody 0/", "! tree 2 2 15"),
             ("sfq1 block/c a nobody 0/", "! tree 2 3 12"),
-            ("sfq1 block/c a root 1/c b a 1/c c b 1/c d c 1/c e d 1/c f e 1/c g f 1/c h g 0/", "! tree 9 3 16"),
+            (
+                "sfq1 block/c a root 1/c b a 1/c c b 1/c d c 1/c e d 1/c f e 1/c g f 1/c h g 0/",
+                "! tree 9 3 16",
+            ),
             ("sfq1 block/c a root 0/x/", "! tree 2 4 13"),
             ("sfq1 block/l 0/l 8/", "! link 2 2 18"),
             ("sfq1 block/o 1 1/o 0 1/", "! link 3 0 17"),
             ("sfq1 block/d/o 1 1/", "! text 3 0 22"),
-        ] {
-            judge(rt.alloc(), lines, expected)?;
-        }
-        Ok(())
+        ];
+        judge_each(rt.alloc(), &cases)
     }
 
     #[test]
@@ -190,7 +234,13 @@ mod tests {
     }
 
     // A first line and so many lines `c NUMBER root 1`, or a rate before so many lines `o NUMBER 1`.
-    fn many(heap: Global, classes: u32, outages: u32, last: &str, expected: &str) -> Result<(), Fail> {
+    fn many(
+        heap: Global,
+        classes: u32,
+        outages: u32,
+        last: &str,
+        expected: &str,
+    ) -> Result<(), Fail> {
         let mut text = Vec::new(heap);
         write(&mut text, "sfq1 block/")?;
         for number in 0..classes {
@@ -221,8 +271,16 @@ mod tests {
     #[test]
     fn what_is_read(rt: LibcRuntime) -> Result<(), Fail> {
         let mut text = Vec::new(rt.alloc());
-        write(&mut text, "sfq1 quantum/c film root 2/c touch film 1/l 8/o 1 2/a film 10/d/p/e/g/")?;
-        let Trace { kind, draft, mut link, events } = read(rt.alloc(), text.as_slice())?;
+        write(
+            &mut text,
+            "sfq1 quantum/c film root 2/c touch film 1/l 8/o 1 2/a film 10/d/p/e/g/",
+        )?;
+        let Trace {
+            kind,
+            draft,
+            mut link,
+            events,
+        } = read(rt.alloc(), text.as_slice())?;
         check_eq(kind, Kind::Quantum)?;
         check_eq(draft.find(b"film"), Some(1))?;
         check_eq(draft.into_parts().1.parent(2), Some(1))?;
@@ -230,7 +288,10 @@ mod tests {
             check_eq(link.draw(wanted), done)?;
         }
         let expected = [
-            Event::Submit { name: "film", cost: 10 },
+            Event::Submit {
+                name: "film",
+                cost: 10,
+            },
             Event::Dispatch,
             Event::Pulse,
             Event::End,

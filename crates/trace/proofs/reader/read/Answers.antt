@@ -5,8 +5,8 @@ use Rattle.text.specs.Kinds.{title}
 use Rattle.text.specs.Texts.{rest}
 use Rattle.trace.specs.Faults.{on}
 use Rattle.trace.specs.Traces.{Told, too-long, untitled}
-use Rattle.trace.proofs.Exits.{was-ok, exit}
-use Rattle.trace.proofs.Sofar.{begun, step-told, step-more, finish-told, finish-done}
+use Rattle.trace.proofs.Exits.{was-ok, exit, exit-wanting}
+use Rattle.trace.proofs.Sofar.{begun, step-told, step-more, step-wanting, finish-told, finish-done}
 use Rattle.trace.proofs.reader.read.Needs as need
 
 pub returns-in-Break-on-line : need.returns-in-Break-on-line
@@ -32,6 +32,13 @@ pub returns-in-Break-event : need.returns-in-Break-event
 returns-in-Break-event c =
     exit _ _ _ (c .on-line-in-loop-line .ensures) _ _ _ (c .from-residual-in-Break-event .ensures .1) (c .in-Break-event .was tt)
     (step-told _ _ _ _ (c .loop-line .reading) _ (c .loop-line .inv) _ (c .step .last .self) _ (c .in-Some .line) (c .in-Some .ensures tt .steps) (c .step .ensures))
+
+pub returns-in-Break-keep : need.returns-in-Break-keep
+returns-in-Break-keep c =
+    let was = was-ok _ _ _ (c .on-line-in-loop-line .ensures) _ (c .in-Continue-event .was tt) in
+    let bad = c .in-Break-keep .ensures tt in
+    exit-wanting _ _ _ (c .from-residual-in-Break-keep .ensures .1) (bad .0)
+    (step-wanting _ _ _ _ (c .loop-line .reading) _ (c .loop-line .inv) _ (c .step .last .self) _ (c .in-Some .line) (c .in-Some .ensures tt .steps) (c .step .ensures) _ was (bad .1))
 
 pub loop-line-again : need.loop-line-again
 loop-line-again c =
