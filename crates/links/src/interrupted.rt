@@ -25,9 +25,16 @@ impl<S> Interrupted<S> {
     pub fn new(below: S) -> Interrupted<S>
         ensures { λ r. ⌜ (r .below ≡ below) × (listed (r .outages) ≡ []) × (r .count ≡ 0) ⌝ }
     {
+        Interrupted::with_outages(below, Outages::new())
+    }
+
+    /// A link with these outages that has counted no draw.
+    pub fn with_outages(below: S, outages: Outages) -> Interrupted<S>
+        ensures { λ r. ⌜ (r .below ≡ below) × (r .outages ≡ outages) × (r .count ≡ 0) ⌝ }
+    {
         Interrupted {
             below,
-            outages: Outages::new(),
+            outages,
             count: 0,
         }
     }

@@ -6,10 +6,8 @@ use native.Mathlib.Omega.{arith}
 use borrow.Author.Needs.{needs}
 use lib.ListN.{length, length-append}
 use Rattle.base.specs.declared.refusal.Refusal.{Refusal}
-use Rattle.base.specs.declared.refusal.Refusal.the-variants.{BadLine}
 use Rattle.std.specs.declared.result.Result.{Result}
 use Rattle.std.specs.declared.result.Result.the-variants.{Ok, Err}
-use Rattle.std.specs.Results.{Cases}
 use Rattle.std.specs.shelf.Lists.{All}
 use Rattle.std.proofs.shelf.Elements.{all-append}
 use Rattle.text.specs.declared.kind.Kind.{Kind}
@@ -18,7 +16,7 @@ use Rattle.text.specs.declared.line.Line.{Line}
 use Rattle.text.specs.Words.{Free}
 use Rattle.text.specs.Lines.{initial, fields, spaced, written, Proper, Reads}
 use Rattle.text.specs.Kinds.{title, Untitled}
-use Rattle.text.specs.Texts.{Faulty}
+use Rattle.text.specs.Texts.{Faulty, Gives}
 use Rattle.text.proofs.Forms.{heads, tails, words-free, initial-free}
 
 -- the first b cuts a list in one way only
@@ -47,7 +45,7 @@ spaced-free (w ∷ v ∷ ws) h = all-append _ w (32 ∷ spaced (v ∷ ws)) (h .0
 pub written-free : (l : Line) → Proper l → Free 10 (written l)
 written-free l p = spaced-free ((initial l ∷ []) ∷ fields l) (initial-free 10 (omega arith) l, words-free 10 (omega arith) l p)
 
-title-free : (k : Kind) → Free 10 (title k)
+pub title-free : (k : Kind) → Free 10 (title k)
 title-free Quantum = search needs
 title-free Block = search needs
 
@@ -64,6 +62,6 @@ module _ (bs bytes more : List ℕ) (free : Free 10 bytes) (cut : bs ≡ bytes +
   no-title none k us e = none k (cut-once 10 _ _ _ _ (title-free k) free (e ∙ cut) .0)
 
   -- so a text begins with what its first bytes up to a line end are
-  pub one-line : (r : Result Line Refusal) → Reads bytes r → Cases r (λ l. Proper l × (bs ≡ written l ++ 10 ∷ more)) (λ e. (e ≡ BadLine) × Faulty bs)
+  pub one-line : (r : Result Line Refusal) → Reads bytes r → Gives bs more r
   one-line (Ok l) h = (h .0, cut ∙ ap (λ z. z ++ 10 ∷ more) (sym (h .1)))
   one-line (Err e) h = (h .0, no-line (h .1))

@@ -62,7 +62,7 @@ module _ (b : ℕ) (low : b < 48) where
   initial-free (event GiveUp) = ((λ e. omega arith), tt)
 
 -- a proper line's bytes hold its words
-splits-written : (l : Line) → Proper l → splits (written l) ≡ (initial l ∷ []) ∷ fields l
+pub splits-written : (l : Line) → Proper l → splits (written l) ≡ (initial l ∷ []) ∷ fields l
 splits-written l h = splits-spaced (initial l ∷ []) (fields l) (initial-free 32 (omega arith) l, words-free 32 (omega arith) l h)
 
 -- how many words follow a letter

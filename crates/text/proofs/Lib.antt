@@ -3,3 +3,4 @@ pub mod Cuts
 pub mod Splits
 pub mod Forms
 pub mod Ends
+pub mod Once

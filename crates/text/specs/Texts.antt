@@ -27,10 +27,10 @@ pub record Faulty (bs : List ℕ) : Type 0 where
 abbrev pub rest : Lines → List ℕ
 rest s = s .rest .now
 
--- a step over a text: the end; or a proper line and its line end; or the refusal of what begins with no such line
+-- what begins the bytes: a proper line and its line end, with more behind it; or the refusal of bytes that begin with no such line
+abbrev pub Gives : List ℕ → List ℕ → Result Line Refusal → Type 0
+Gives bs more r = results.Cases r (λ l. Proper l × (bs ≡ written l ++ 10 ∷ more)) (λ e. (e ≡ BadLine) × Faulty bs)
+
+-- a step over a text: the end, or what begins it
 abbrev pub Steps : Lines → Option (Result Line Refusal) → Lines → Type 0
-Steps s r t =
-    options.Cases r (rest s ≡ []) (λ x.
-    results.Cases x
-    (λ l. Proper l × (rest s ≡ written l ++ 10 ∷ rest t))
-    (λ e. (e ≡ BadLine) × Faulty (rest s)))
+Steps s r t = options.Cases r (rest s ≡ []) (Gives (rest s) (rest t))

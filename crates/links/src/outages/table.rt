@@ -10,7 +10,8 @@ use crate::outages::Outages;
 use base::refusal::Refusal;
 
 impl Outages {
-    pub(crate) fn new() -> Outages
+    /// No outages.
+    pub fn new() -> Outages
         ensures { λ r. ⌜ listed r ≡ [] ⌝ }
     {
         Outages {
@@ -51,7 +52,7 @@ impl Outages {
     }
 
     /// Adds the outage behind those that stand, or refuses it.
-    pub(crate) fn add(&mut self, outage: Outage) -> Result<(), Refusal>
+    pub fn add(&mut self, outage: Outage) -> Result<(), Refusal>
         ensures { λ r. ⌜ Cases r
             (λ _. (fits (listed (now (self .entry))) outage ≡ true) × (listed (now (self .exit)) ≡ listed (now (self .entry)) ++ outage ∷ []))
             (λ e. (e ≡ Refusal.BadOutage) × (fits (listed (now (self .entry))) outage ≡ false) × (now (self .exit) ≡ now (self .entry))) ⌝ }

@@ -10,7 +10,7 @@ use base::refusal::Refusal;
 
 impl<'a> Lines<'a> {
     /// The lines of the text.
-    pub fn new(text: &'a [u8]) -> Lines<'a>
+    pub(crate) fn new(text: &'a [u8]) -> Lines<'a>
         ensures { λ r. ⌜ rest r ≡ now (text .entry) ⌝ }
     {
         Lines { rest: text }

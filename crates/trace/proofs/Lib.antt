@@ -1,0 +1,5 @@
+pub mod Exits
+pub mod Once
+pub mod Orders
+pub mod Same
+pub mod Sofar

@@ -1,0 +1,5 @@
+pub mod Faults
+pub mod Parts
+pub mod Makings
+pub mod Readings
+pub mod Traces
