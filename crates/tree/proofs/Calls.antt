@@ -8,6 +8,7 @@ use Rattle.base.specs.declared.refusal.Refusal.{Refusal}
 use Rattle.rules.specs.Kind.{Kind}
 use Rattle.rules.specs.Rules.{Step}
 use Rattle.rules.specs.Laws.{Lasts}
+use Rattle.shelf.specs.Lanes.{Lent}
 use Rattle.shelf.specs.declared.shelf.Shelf.{Shelf}
 use Rattle.tags.specs.Held.{Held}
 use Rattle.tree.specs.Calls.{call-of, taken, answer-of, Unspent, Draws}
@@ -26,6 +27,7 @@ module _ {T I S : Type 0} (held : T → Held) (K : Kind I) (work : S → ℕ) (d
     pub table : t′ .table ≡ t .table
     pub drew : Draws draws (t .phase) x r v v′
     pub grant : Unspent t r
+    pub lender : Lent s s′
     pub refused : Cases r (λ _. Unit {0}) (λ e. (e .1 ≡ taken x) × (t′ ≡ t) × (s′ ≡ s))
 
   -- what holds of a call holds of the same call

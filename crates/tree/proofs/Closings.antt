@@ -3,14 +3,14 @@ use mathlib.Core.Path.{_≡_, refl, sym, ap, subst, _∙_, fun-ext}
 use mathlib.Core.Logic.{_⊎_, inl, inr, ⊎-elim}
 use mathlib.Core.Bool.{Bool, true, false, cond, not, _&&_}
 use mathlib.Core.List.{List}
-use Prim.Native.Nat.{ℕ, _+_, _-_, _*_, _/_, _<_, _≤_, max}
+use Prim.Native.Nat.{ℕ, _+_, _-_, _*_, _<_, _≤_, max}
 use native.Mathlib.Nat.{div-le-self}
 use native.Mathlib.Omega.{arith}
 use lib.Dec.{eqb, ltb}
 use lib.ListN.{length}
 use Rattle.std.specs.declared.option.Option.{Option}
 use Rattle.std.specs.declared.option.Option.the-variants.{Some, None}
-use Rattle.std.proofs.shelf.Tests.{cases-eq, cond-both, cond-true, cond-false, eq-eqb, ne-eqb, not-from-true, not-from-false, or-left, or-right, or-from, both-ways}
+use Rattle.std.proofs.shelf.Tests.{cases-eq, cond-both, cond-true, cond-false, eq-eqb, ne-eqb, not-from-true, not-from-false, or-left, or-right, or-from}
 use Rattle.base.specs.Charge.{charged}
 use Rattle.base.specs.declared.refusal.Refusal.the-variants.{LaneMismatch, NoStoppingPoint}
 use Rattle.base.specs.declared.units.Parts.{Parts}
@@ -36,7 +36,6 @@ use Rattle.tree.specs.Walks.{fewer, rests, reached, settled}
 use Rattle.tree.specs.States.{tags, state}
 use Rattle.tree.specs.Trees.{state-of, InStep}
 use Rattle.tree.specs.declared.load.Load.{Load}
-use Rattle.tree.specs.declared.phase.Phase.{Phase}
 use Rattle.tree.specs.declared.phase.Phase.the-variants.{Free, Open}
 use Rattle.tree.specs.declared.tree.Tree.{Tree}
 use Rattle.tree.proofs.Counts.{leaves, queue-known, busy-backlog, queued-low, queued-put, counted-put, few-put}

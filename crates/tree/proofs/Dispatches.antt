@@ -5,7 +5,7 @@ use mathlib.Core.Bool.{Bool, true, false, cond, not, _&&_}
 use mathlib.Core.List.{List}
 use Prim.Native.Nat.{ℕ, _+_, _<_, _≤_}
 use native.Mathlib.Omega.{arith}
-use lib.Dec.{eqb, ltb, leb}
+use lib.Dec.{eqb, ltb}
 use lib.ListN.{length}
 use Rattle.std.specs.declared.option.Option.{Option}
 use Rattle.std.specs.declared.option.Option.the-variants.{Some, None}
@@ -18,16 +18,17 @@ use Rattle.rules.specs.Shape.{Shape, Sound, under, leaf}
 use Rattle.rules.specs.State.{State, sum, is-open, backlogged, next, picked, mismatch}
 use Rattle.rules.specs.Rules.{dispatch, refused, granted, head-cost, effect, Step}
 use Rattle.rules.specs.Laws.{Within}
+use Rattle.rules.specs.Picks.{Chosen}
 use Rattle.rules.proofs.Calls.{accept, refuse}
 use Rattle.rules.proofs.Tests.{not-some, some-same}
-use Rattle.rules.proofs.Tree.{under-below, below-under, below-le, on-the-way, child-decides, leaf-alone}
-use Rattle.rules.proofs.Picks.{Way, picks}
+use Rattle.rules.proofs.Tree.{under-below, below-under, on-the-way, child-decides, leaf-alone}
+use Rattle.rules.proofs.Picks.{picks, path-next}
 use Rattle.shelf.specs.Chains.{first}
 use Rattle.shelf.specs.Lanes.{lanes, room}
 use Rattle.shelf.specs.declared.shelf.Shelf.{Shelf}
 use Rattle.tags.specs.Held.{Held}
-use Rattle.tree.specs.Counts.{queued, waiting, Counted}
-use Rattle.tree.specs.Loads.{load, stocked, Stocked}
+use Rattle.tree.specs.Counts.{queued, Counted}
+use Rattle.tree.specs.Loads.{load, Stocked}
 use Rattle.tree.specs.Walks.{pick, Advanced}
 use Rattle.tree.specs.Turns.{turn}
 use Rattle.tree.specs.States.{tags, state}
@@ -88,20 +89,20 @@ module _ {I : Type 0} (house : ℕ) (t : Shape) (w : ℕ → ℕ) (ls : List Loa
   module _ (b : backlogged s 0 ≡ true) (ms : List Load) (moved : Advanced t (picked s) ls ms) where
     virtual-is : (k : ℕ) → load ms k .vtime .0 ≡ cond (under t k (picked s) && not (leaf t k)) (load ls (next s k) .start .0) (load ls k .vtime .0)
     virtual-is k =
-        let way = picks s ok (leaves t ls) b .0 in
+        let chosen = picks s ok (leaves t ls) b .0 in
         let new : ℕ = load ls (next s k) .start .0 in
         let old : ℕ = load ls k .vtime .0 in
         elim (cases-bool (under t k (picked s))) [
           | inr off ↦ ap (λ v. v .0) (moved .off k (and-left _ _ off)) ∙ sym (cond-false (under t k (picked s) && not (leaf t k)) new old (and-left _ _ off))
           | inl on ↦ elim (cases-bool (leaf t k)) [
             | inl end ↦
-                let is : k ≡ picked s = sym (leaf-alone ok (way .known) end (under-below ok on)) in
+                let is : k ≡ picked s = sym (leaf-alone ok (chosen .known) end (under-below ok on)) in
                 let stays : (under t k (picked s) && not (eqb k (picked s))) ≡ false = rw (eq-eqb k (picked s) is) (and-off (under t k (picked s))) in
                 let rests : (under t k (picked s) && not (leaf t k)) ≡ false = rw end (and-off (under t k (picked s))) in
                 ap (λ v. v .0) (moved .off k stays) ∙ sym (cond-false (under t k (picked s) && not (leaf t k)) new old rests)
             | inr inner ↦
-                let (d, pos, is, below, takes) = passed t ls ms (picked s) moved ok (way .known) k on (λ e. both-ways _ inner (subst (λ l. leaf t l ≡ true) e (way .ends))) in
-                let to : next s k ≡ d = ap (next s) (sym is) ∙ way .on d pos (under-below ok below) in
+                let (d, pos, is, below, takes) = passed t ls ms (picked s) moved ok (chosen .known) k on (λ e. both-ways _ inner (subst (λ l. leaf t l ≡ true) e (chosen .ends))) in
+                let to : next s k ≡ d = ap (next s) (sym is) ∙ path-next s ok (leaves t ls) b d pos below in
                 ap (λ v. v .0) takes ∙ ap (λ d. load ls d .start .0) (sym to)
                 ∙ sym (cond-true (under t k (picked s) && not (leaf t k)) new old (and-from _ _ on (not-from-false _ inner)))
           ]
@@ -172,6 +173,10 @@ module _ {T I : Type 0} (K : Kind I) (t : Tree T I) (sh : Shelf I) where
         | inl busy ↦ (busy, some-same (to ∙ choice-is w ∙ cond-true (backlogged (now w) 0) (Some (picked (now w))) None busy))
         | inr idle ↦ absurd (not-some (sym (to ∙ choice-is w ∙ cond-false (backlogged (now w) 0) (Some (picked (now w))) None idle)))
       ]
+
+      -- each class on the path to it is the best of its parent's children
+      pub chooses : (w : ℕ) → Chosen (now w) r
+      chooses w = let (busy, is) = comes w in subst (Chosen (now w)) (sym is) (picks (now w) (shape-sound (t .table)) (leaves shape ls) busy .0)
 
       some-items : (w : ℕ) → 0 < queued shape ls r
       some-items w = let (busy, is) = comes w in subst (λ r. 0 < queued shape ls r) (sym is) (picks (now w) (shape-sound (t .table)) (leaves shape ls) busy .1)

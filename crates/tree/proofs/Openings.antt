@@ -2,7 +2,7 @@
 use mathlib.Core.Path.{_≡_, refl, sym, ap, _∙_, fun-ext}
 use mathlib.Core.Bool.{Bool, true, false, cond, _&&_}
 use mathlib.Core.List.{List, []}
-use Prim.Native.Nat.{ℕ, zero, suc, _+_, _*_, _<_, _≤_}
+use Prim.Native.Nat.{ℕ, zero, suc}
 use native.Mathlib.Omega.{arith}
 use lib.Dec.{ltb}
 use Rattle.std.specs.declared.option.Option.{Option}
@@ -15,7 +15,7 @@ use Rattle.rules.specs.Laws.{Within}
 use Rattle.rules.specs.Shape.{Shape, under, leaf}
 use Rattle.rules.specs.State.{Valid, fresh, sum}
 use Rattle.tags.specs.Held.{Held, nothing}
-use Rattle.tree.specs.Counts.{queued, waiting, Counted}
+use Rattle.tree.specs.Counts.{queued, Counted}
 use Rattle.tree.specs.Loads.{no-load, load, Stocked}
 use Rattle.tree.specs.States.{tags, state}
 use Rattle.tree.specs.Trees.{opening}

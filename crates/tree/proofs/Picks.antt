@@ -2,7 +2,7 @@
 use mathlib.Core.Path.{_≡_, refl, sym, ap, _∙_}
 use mathlib.Core.Logic.{inl, inr}
 use mathlib.Core.Bool.{Bool, true, false, cond, _&&_}
-use Prim.Native.Nat.{ℕ, zero, suc, _<_, _≤_}
+use Prim.Native.Nat.{ℕ, zero, suc, _<_}
 use native.Mathlib.Omega.{arith}
 use lib.Dec.{ltb}
 use Rattle.std.specs.declared.option.Option.{Option}
@@ -11,10 +11,11 @@ use Rattle.std.proofs.shelf.Tests.{cases-bool, cond-true, cond-false, and-parts
 use Rattle.base.specs.declared.units.Parts.{Parts}
 use Rattle.rules.specs.Shape.{Sound, child, leaf}
 use Rattle.rules.specs.State.{State, backlogged, next, descend, picked}
-use Rattle.rules.proofs.Tests.{no-test, not-some}
+use Rattle.rules.specs.Picks.{Best}
+use Rattle.rules.proofs.Tests.{not-some}
 use Rattle.rules.proofs.Tree.{child-decides, root-above, no-leaf}
 use Rattle.rules.proofs.Backlog.{busy-known, busy-above}
-use Rattle.rules.proofs.Picks.{Best, best-only, goes-on}
+use Rattle.rules.proofs.Picks.{best-next, goes-on}
 use Rattle.tags.specs.Held.{Held, leastOf, Looks}
 use Rattle.tags.proofs.Uses.{least-looks, some-tag, some-group}
 use Rattle.tree.specs.Walks.{child-or, down, below-root, pick}
@@ -59,7 +60,7 @@ module _ {I : Type 0} (s : State I) (ok : Sound (s .shape)) (leaves : (l : ℕ) 
         least = λ k l c u. omega (arith, start, looks .least k _ (known k u) (held node k c u));
         lowest = λ k l c u le. looks .first k _ (known k u) (held node k c u) (omega (arith, start, looks .least k _ (known k u) (held node k c u)));
       } in
-      (p, refl, best-only s node (s .shape .count) _ _ best (goes-on s ok leaves node b inner))
+      (p, refl, sym (best-next s node (p .0) best))
 
   -- a leaf has no least
   least-none : (node : ℕ) (o : Option (ℕ × Parts)) → Looks h node 64 o → leaf (s .shape) node ≡ true → o ≡ None

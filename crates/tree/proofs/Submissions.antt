@@ -26,7 +26,7 @@ use Rattle.shelf.specs.Lanes as shelf
 use Rattle.shelf.specs.declared.shelf.Shelf.{Shelf}
 use Rattle.tags.specs.Held.{Held, free}
 use Rattle.tree.specs.Counts.{queued, Counted}
-use Rattle.tree.specs.Loads.{load, stocked, Stocked}
+use Rattle.tree.specs.Loads.{load, Stocked}
 use Rattle.tree.specs.Walks.{wakes, woken, woken-held}
 use Rattle.tree.specs.Turns.{turn}
 use Rattle.tree.specs.States.{tags, state}

@@ -2,6 +2,7 @@
 ghost use mathlib.Core.Path.{_≡_};
 ghost use Rattle.rules.specs.Laws.{Lasts};
 ghost use Rattle.rules.specs.Rules.{Step};
+ghost use Rattle.shelf.specs.Lanes.{Lent};
 ghost use Rattle.std.specs.Results.{Cases};
 ghost use Rattle.tree.specs.Calls.{call-of, taken, answer-of, Unspent, Draws};
 ghost use Rattle.tree.specs.Trees.{state-of, InStep};
@@ -47,6 +48,7 @@ impl<T: TagStore, I: Item> Tree<T, I> {
         ensures table { λ _. ⌜ now (self .exit) .table ≡ now (self .entry) .table ⌝ }
         ensures drew { λ r. ⌜ Draws (S·Server .draws) (now (self .entry) .phase) (call .entry) r (now (server .entry)) (now (server .exit)) ⌝ }
         ensures grant { λ r. ⌜ Unspent (now (self .entry)) r ⌝ }
+        ensures lender { λ _. ⌜ Lent (now (shelf .entry)) (now (shelf .exit)) ⌝ }
         ensures refused { λ r. ⌜ Cases r (λ _. Unit {0}) (λ e. (e .1 ≡ taken (call .entry)) × (now (self .exit) ≡ now (self .entry)) × (now (shelf .exit) ≡ now (shelf .entry))) ⌝ }
     {
         match (self.phase, call) {

@@ -6,10 +6,11 @@ ghost use lib.Dec.{eqb};
 ghost use lib.ListN.{length};
 ghost use Rattle.classes.specs.Tables.{shape-of};
 ghost use Rattle.rules.specs.Laws.{Lasts};
+ghost use Rattle.rules.specs.Picks.{Chosen};
 ghost use Rattle.rules.specs.Rules.{Step, submit, dispatch, pulse};
 ghost use Rattle.rules.specs.Shape.{leaf};
 ghost use Rattle.shelf.specs.Chains.{first};
-ghost use Rattle.shelf.specs.Lanes.{lanes};
+ghost use Rattle.shelf.specs.Lanes.{lanes, Lent};
 ghost use Rattle.shelf.specs.declared.shelf.Shelf.{Shelf};
 ghost use Rattle.std.specs.Results.{Cases};
 ghost use Rattle.std.specs.declared.option.Option.the-variants.{None};
@@ -40,6 +41,7 @@ impl<T: TagStore, I: Item> Tree<T, I> {
         ensures steps { λ r. ⌜ ((w : ℕ) → Step I·Item (state-of (now (self .entry)) (now (shelf .entry)) w) (submit class item) (submitted r) (state-of (now (self .exit)) (now (shelf .exit)) w)) ⌝ }
         ensures lawful { λ r. ⌜ ((w : ℕ) → Lasts I·Item (state-of (now (self .entry)) (now (shelf .entry)) w) (submit class item) (submitted r) (state-of (now (self .exit)) (now (shelf .exit)) w)) ⌝ }
         ensures table { λ _. ⌜ now (self .exit) .table ≡ now (self .entry) .table ⌝ }
+        ensures lender { λ _. ⌜ Lent (now (shelf .entry)) (now (shelf .exit)) ⌝ }
         ensures refused { λ r. ⌜ Cases r (λ _. Unit {0}) (λ _. (now (self .exit) ≡ now (self .entry)) × (now (shelf .exit) ≡ now (shelf .entry))) ⌝ }
     {
         if class as usize >= self.table.len() {
@@ -68,6 +70,7 @@ impl<T: TagStore, I: Item> Tree<T, I> {
         ensures steps { λ r. ⌜ (InStep (T·TagStore .held) (now (self .entry)) → (w : ℕ) → Step I·Item (state-of (now (self .entry)) (now (shelf .entry)) w) dispatch (dispatched r) (state-of (now (self .exit)) (now (shelf .entry)) w)) ⌝ }
         ensures lawful { λ r. ⌜ (InStep (T·TagStore .held) (now (self .entry)) → (w : ℕ) → Lasts I·Item (state-of (now (self .entry)) (now (shelf .entry)) w) dispatch (dispatched r) (state-of (now (self .exit)) (now (shelf .entry)) w)) ⌝ }
         ensures table { λ _. ⌜ now (self .exit) .table ≡ now (self .entry) .table ⌝ }
+        ensures chosen { λ r. ⌜ (InStep (T·TagStore .held) (now (self .entry)) → (w : ℕ) → Cases r (λ d. Chosen (state-of (now (self .entry)) (now (shelf .entry)) w) (d .class)) (λ _. Unit {0})) ⌝ }
         ensures grant { λ r. ⌜ Cases r (λ d. d .grant ≡ record { house = now (self .entry) .house; turn = now (self .entry) .turns + 1; spent = false }) (λ _. now (self .exit) ≡ now (self .entry)) ⌝ }
     {
         let Phase::Free = self.phase else {

@@ -4,6 +4,7 @@ ghost use Prim.Native.Nat.{ℕ, _+_, _≤_, _<_};
 ghost use Rattle.classes.specs.Tables.{shape-of};
 ghost use Rattle.rules.specs.Laws.{Lasts};
 ghost use Rattle.rules.specs.Rules.{Step, end-turn, give-up};
+ghost use Rattle.shelf.specs.Lanes.{Lent};
 ghost use Rattle.std.specs.Results.{Cases};
 ghost use Rattle.tree.specs.Answers.{grant-of, closed-by};
 ghost use Rattle.tree.specs.Closings.{Closes};
@@ -27,6 +28,7 @@ impl<T: TagStore, I: Item> Tree<T, I> {
         ensures steps { λ r. ⌜ ((w : ℕ) → Step I·Item (state-of (now (self .entry)) (now (shelf .entry)) w) (end-turn (grant-of grant)) (closed-by r) (state-of (now (self .exit)) (now (shelf .exit)) w)) ⌝ }
         ensures lawful { λ r. ⌜ ((w : ℕ) → Lasts I·Item (state-of (now (self .entry)) (now (shelf .entry)) w) (end-turn (grant-of grant)) (closed-by r) (state-of (now (self .exit)) (now (shelf .exit)) w)) ⌝ }
         ensures table { λ _. ⌜ now (self .exit) .table ≡ now (self .entry) .table ⌝ }
+        ensures lender { λ _. ⌜ Lent (now (shelf .entry)) (now (shelf .exit)) ⌝ }
         ensures refused { λ r. ⌜ Cases r (λ _. Unit {0}) (λ e. (e .1 ≡ grant) × (now (self .exit) ≡ now (self .entry)) × (now (shelf .exit) ≡ now (shelf .entry))) ⌝ }
     {
         let Phase::Open { leaf, cost, done } = self.phase else {

@@ -21,6 +21,7 @@ impl<T: TagStore, I: Item> Tree<T, I> {
         ensures kept { λ r. ⌜ InStep (T·TagStore .held) r ⌝ }
         ensures valid { λ _. ⌜ ((places w : ℕ) → Valid (opening draft places w)) ⌝ }
         ensures opened { λ r. ⌜ ((sh : Shelf I) (w : ℕ) → ((k : ℕ) → lanes sh k ≡ []) → state-of r sh w ≡ fresh (opening draft (room sh) w)) ⌝ }
+        ensures house { λ r. ⌜ r .house ≡ draft .house ⌝ }
         ensures table { λ r. ⌜ r .table ≡ draft .table ⌝ }
     {
         let (house, table) = draft.into_parts();

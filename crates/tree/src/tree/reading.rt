@@ -1,8 +1,9 @@
 //! What can be read off a tree.
 ghost use mathlib.Core.Path.{_≡_};
 ghost use mathlib.Core.Bool.{cond};
-ghost use lib.Dec.{eqb, ltb};
-ghost use Rattle.classes.specs.Tables.{class-of, named, Finds};
+ghost use lib.Dec.{ltb};
+ghost use Rattle.classes.specs.Names.{text-of};
+ghost use Rattle.classes.specs.Tables.{named, name-by, Finds};
 ghost use Rattle.std.specs.Options.{mapped};
 ghost use Rattle.std.specs.declared.option.Option.the-variants.{Some, None};
 ghost use Rattle.tree.specs.Loads.{load};
@@ -37,12 +38,9 @@ impl<T: TagStore, I: Item> Tree<T, I> {
 
     /// The name of the class of that number.
     pub fn name(&self, class: u8) -> Option<Name>
-        ensures { λ r. ⌜ r ≡ mapped (λ c. c .name) (class-of (now (self .entry) .table) class) ⌝ }
+        ensures { λ r. ⌜ mapped text-of r ≡ name-by (now (self .entry) .table) class ⌝ }
     {
-        match self.table.class(class) {
-            Some(class) => Some(class.name),
-            None => None,
-        }
+        self.table.name(class)
     }
 
     /// The start tag of the class of that number; the root's is 0.
@@ -50,7 +48,7 @@ impl<T: TagStore, I: Item> Tree<T, I> {
         ensures value { λ r. ⌜ r ≡ cond (ltb class (now (self .entry) .table .len)) (Some (load (now (self .entry) .queue .loads) class .start)) None ⌝ }
         ensures root { λ r. ⌜ (class ≡ 0 → r ≡ Some (record { 0 = 0 })) ⌝ }
     {
-        if class as usize >= self.table.len() {
+        if class as usize >= self.len() {
             return None;
         }
         Some(self.queue.load(class).start)

@@ -1,14 +1,13 @@
 -- A dispatch is a step of the rules. Assumes nothing.
-use mathlib.Core.Path.{_≡_, refl, sym, ap, subst, _∙_}
+use mathlib.Core.Path.{refl, sym, ap, subst, _∙_}
 use mathlib.Core.Logic.{_⊎_, inl, inr, ⊎-elim}
 use Prim.Native.Nat.{ℕ, _+_, _<_, _≤_}
 use native.Mathlib.Omega.{arith}
-use lib.ListN.{length}
 use Rattle.classes.specs.Tables.{shape-of, weight-of}
 use Rattle.classes.proofs.Tables.{shape-sound}
-use Rattle.rules.specs.Kind.{KindLaws}
 use Rattle.rules.specs.Rules.{dispatch, granted, Step}
 use Rattle.rules.specs.State.{is-open}
+use Rattle.rules.proofs.Bounds.{laws-met}
 use Rattle.rules.proofs.Lawful.{onward}
 use Rattle.shelf.specs.Lanes.{lanes, room}
 use Rattle.tree.specs.Counts.{queued}
@@ -19,28 +18,24 @@ use Rattle.tree.specs.Turns.{turn}
 use Rattle.tree.specs.declared.phase.Phase.the-variants.{Open}
 use Rattle.tree.proofs.Counts.{queue-known}
 use Rattle.tree.proofs.Shelves.{head-counted}
-use Rattle.tree.proofs.Dispatches.{advanced-queued, advanced-counted, advanced-stocked, advanced-within, open-already, none-waits, unmatched, used-up, goes}
-use Rattle.tree.proofs.tree.Tree.dispatch.Given as given
+use Rattle.tree.proofs.Dispatches.{advanced-queued, advanced-counted, advanced-stocked, advanced-within, open-already, none-waits, chooses, unmatched, used-up, goes}
 use Rattle.tree.proofs.tree.Tree.dispatch.Needs as need
-
-laws : (g : given.Over) → KindLaws (g .I·Item)
-laws g = record { at-cost = g .I·Item·met .«at_cost»; never-above = g .I·Item·met .«never_above»; left-costs = g .I·Item·met .«left_costs»; left-whole = g .I·Item·met .«left_whole» }
 
 pub returns-in-rest : need.returns-in-rest
 returns-in-rest g c =
     let step = open-already (g .I·Item) (c .args .self .now) (c .args .shelf .now) (ap (λ p. is-open (turn p)) (c .in-rest .is)) in
-    record { kept = λ ins. ins; steps = λ _. step; lawful = λ _ w. onward (laws g) _ _ _ _ (step w); table = refl; grant = refl }
+    record { kept = λ ins. ins; steps = λ _. step; lawful = λ _ w. onward (laws-met (g .I·Item·met)) _ _ _ _ (step w); table = refl; chosen = λ _ _. tt; grant = refl }
 
 pub returns-in-rest-pick : need.returns-in-rest-pick
 returns-in-rest-pick g c =
     let step = none-waits (g .I·Item) (c .args .self .now) (c .args .shelf .now) (g .T·TagStore .held) (c .in-Free .is) in
-    record { kept = λ ins. ins; steps = λ ins. step ins (c .in-rest-pick .ensures tt); lawful = λ ins w. onward (laws g) _ _ _ _ (step ins (c .in-rest-pick .ensures tt) w); table = refl; grant = refl }
+    record { kept = λ ins. ins; steps = λ ins. step ins (c .in-rest-pick .ensures tt); lawful = λ ins w. onward (laws-met (g .I·Item·met)) _ _ _ _ (step ins (c .in-rest-pick .ensures tt) w); table = refl; chosen = λ _ _. tt; grant = refl }
 
 pub returns-in-rest-head : need.returns-in-rest-head
 returns-in-rest-head g c =
     let step = unmatched (g .I·Item) (c .args .self .now) (c .args .shelf .now) (g .T·TagStore .held) (c .in-Free .is) in
     let to = c .in-Some .ensures tt in
-    record { kept = λ ins. ins; steps = λ ins. step ins _ to (c .in-rest-head .ensures tt); lawful = λ ins w. onward (laws g) _ _ _ _ (step ins _ to (c .in-rest-head .ensures tt) w); table = refl; grant = refl }
+    record { kept = λ ins. ins; steps = λ ins. step ins _ to (c .in-rest-head .ensures tt); lawful = λ ins w. onward (laws-met (g .I·Item·met)) _ _ _ _ (step ins _ to (c .in-rest-head .ensures tt) w); table = refl; chosen = λ _ _. tt; grant = refl }
 
 pub returns-then-meter-gt-LIMIT : need.returns-then-meter-gt-LIMIT
 returns-then-meter-gt-LIMIT g c =
@@ -49,7 +44,7 @@ returns-then-meter-gt-LIMIT g c =
     let past : (1000000000000 < t .meter .0 + x) ⊎ (1000000000000 < t .turns + 1) = ⊎-elim (λ l. inl (omega (arith, c .get .ensures, c .from .ensures, c .cost-cost .ensures))) (λ l. inr (l .1)) (c .then-meter-gt-LIMIT .either) in
     let step = used-up (g .I·Item) t (c .args .shelf .now) (g .T·TagStore .held) (c .in-Free .is) in
     let to = c .in-Some .ensures tt in
-    record { kept = λ ins. ins; steps = λ ins. step ins _ to _ (c .in-Some-head .ensures tt) past; lawful = λ ins w. onward (laws g) _ _ _ _ (step ins _ to _ (c .in-Some-head .ensures tt) past w); table = refl; grant = refl }
+    record { kept = λ ins. ins; steps = λ ins. step ins _ to _ (c .in-Some-head .ensures tt) past; lawful = λ ins w. onward (laws-met (g .I·Item·met)) _ _ _ _ (step ins _ to _ (c .in-Some-head .ensures tt) past w); table = refl; chosen = λ _ _. tt; grant = refl }
 
 pub advance-requires : need.advance-requires
 advance-requires g c κs =
@@ -103,7 +98,8 @@ returns g c =
     record {
       kept = λ ins. subst (λ s. Stocked (shape-of (t .table)) (g .T·TagStore .held s) ms) (sym (c .advance .ensures .store)) (advanced-stocked (shape-of (t .table)) ls ms leaf moved _ ins);
       steps = told;
-      lawful = λ ins w. onward (laws g) _ _ _ _ (told ins w);
+      lawful = λ ins w. onward (laws-met (g .I·Item·met)) _ _ _ _ (told ins w);
       table = refl;
+      chosen = λ ins. chooses (g .I·Item) t sh (g .T·TagStore .held) (c .in-Free .is) ins leaf (c .in-Some .ensures tt);
       grant = refl;
     }

@@ -1,18 +1,15 @@
 -- An ending is a step of the rules. Assumes nothing.
 use mathlib.Core.Path.{_≡_, refl, sym, ap, subst, _∙_}
 use mathlib.Core.Logic.{inl, inr}
-use mathlib.Core.Bool.{true, false}
+use mathlib.Core.Bool.{true}
 use Prim.Native.Nat.{ℕ, _<_, _≤_}
 use native.Mathlib.Omega.{arith}
-use lib.ListN.{length, drop}
-use Rattle.std.specs.declared.option.Option.the-variants.{Some}
 use Rattle.classes.specs.Tables.{shape-of}
-use Rattle.rules.specs.Kind.{KindLaws}
-use Rattle.rules.specs.Rules.{end-turn, closed, head-cost, may-stop, settled, Step}
+use Rattle.rules.specs.Rules.{end-turn, closed, settled, Step}
 use Rattle.rules.specs.State.{put}
+use Rattle.rules.proofs.Bounds.{laws-met}
 use Rattle.rules.proofs.Lawful.{onward}
-use Rattle.shelf.specs.Chains.{first}
-use Rattle.shelf.specs.Lanes.{lanes, room, headed}
+use Rattle.shelf.specs.Lanes.{lanes, room, Lent}
 use Rattle.tree.specs.Answers.{grant-of}
 use Rattle.tree.specs.Counts.{queued}
 use Rattle.tree.specs.Trees.{state-of}
@@ -20,26 +17,22 @@ use Rattle.tree.specs.Turns.{serving}
 use Rattle.tree.proofs.Grants.{none-open, not-own, end-refused}
 use Rattle.tree.proofs.Shelves.{unread, head-full, head-read, all-done, some-left}
 use Rattle.tree.proofs.Closings.{closes-in-step, some, end-mismatch, no-stop, ends}
-use Rattle.tree.proofs.tree.Tree.end.Given as given
 use Rattle.tree.proofs.tree.Tree.end.Needs as need
 use Rattle.tree.proofs.tree.Tree.end.Needs.{then-gone, else-gone}
-
-laws : (g : given.Over) → KindLaws (g .I·Item)
-laws g = record { at-cost = g .I·Item·met .«at_cost»; never-above = g .I·Item·met .«never_above»; left-costs = g .I·Item·met .«left_costs»; left-whole = g .I·Item·met .«left_whole» }
 
 pub returns-in-rest : need.returns-in-rest
 returns-in-rest g c =
     let t = c .args .self .now in
     let grant = grant-of (c .args .grant) in
     let step = end-refused (g .I·Item) t grant (none-open (g .I·Item) t grant (c .in-rest .is)) (c .args .shelf .now) in
-    record { kept = λ ins. ins; steps = step; lawful = λ w. onward (laws g) _ _ _ _ (step w); table = refl; refused = (refl, refl, refl) }
+    record { kept = λ ins. ins; steps = step; lawful = λ w. onward (laws-met (g .I·Item·met)) _ _ _ _ (step w); table = refl; lender = (refl, refl); refused = (refl, refl, refl) }
 
 pub returns-then-not-gave : need.returns-then-not-gave
 returns-then-not-gave g c =
     let t = c .args .self .now in
     let grant = grant-of (c .args .grant) in
     let step = end-refused (g .I·Item) t grant (not-own (g .I·Item) t grant (c .if-not-gave .ensures tt)) (c .args .shelf .now) in
-    record { kept = λ ins. ins; steps = step; lawful = λ w. onward (laws g) _ _ _ _ (step w); table = refl; refused = (refl, refl, refl) }
+    record { kept = λ ins. ins; steps = step; lawful = λ w. onward (laws-met (g .I·Item·met)) _ _ _ _ (step w); table = refl; lender = (refl, refl); refused = (refl, refl, refl) }
 
 pub returns-in-rest-head : need.returns-in-rest-head
 returns-in-rest-head g c =
@@ -50,7 +43,7 @@ returns-in-rest-head g c =
     let has = some (g .I·Item) t grant leaf (c .in-Open .cost) (c .in-Open .done) (c .in-Open .is) (c .if-not-gave .ensures tt) sh in
     let off = unread (lanes sh leaf) (queued (shape-of (t .table)) (t .queue .loads) leaf) has (c .in-rest-head .ensures tt) in
     let step = end-mismatch (g .I·Item) t grant leaf (c .in-Open .cost) (c .in-Open .done) (c .in-Open .is) (c .if-not-gave .ensures tt) sh (inl off) in
-    record { kept = λ ins. ins; steps = step; lawful = λ w. onward (laws g) _ _ _ _ (step w); table = refl; refused = (refl, refl, refl) }
+    record { kept = λ ins. ins; steps = step; lawful = λ w. onward (laws-met (g .I·Item·met)) _ _ _ _ (step w); table = refl; lender = (refl, refl); refused = (refl, refl, refl) }
 
 pub returns-then-cost : need.returns-then-cost
 returns-then-cost g c =
@@ -60,7 +53,7 @@ returns-then-cost g c =
     let (_, head) = head-full (lanes sh leaf) (queued (shape-of (t .table)) (t .queue .loads) leaf) (c .in-Some .item) (c .in-Some .ensures tt) in
     let (costs, _) = head-read (g .I·Item) (c .in-Some .item) (lanes sh leaf) head in
     let step = end-mismatch (g .I·Item) t (grant-of (c .args .grant)) leaf (c .in-Open .cost) (c .in-Open .done) (c .in-Open .is) (c .if-not-gave .ensures tt) sh (inr (λ e. c .if-cost .taken (c .cost .ensures ∙ sym costs ∙ e))) in
-    record { kept = λ ins. ins; steps = step; lawful = λ w. onward (laws g) _ _ _ _ (step w); table = refl; refused = (refl, refl, refl) }
+    record { kept = λ ins. ins; steps = step; lawful = λ w. onward (laws-met (g .I·Item·met)) _ _ _ _ (step w); table = refl; lender = (refl, refl); refused = (refl, refl, refl) }
 
 pub returns-then-not-may-stop : need.returns-then-not-may-stop
 returns-then-not-may-stop g c =
@@ -71,7 +64,7 @@ returns-then-not-may-stop g c =
     let (costs, stops) = head-read (g .I·Item) (c .in-Some .item) (lanes sh leaf) head in
     let step = no-stop (g .I·Item) t (grant-of (c .args .grant)) leaf (c .in-Open .cost) (c .in-Open .done) (c .in-Open .is) (c .if-not-gave .ensures tt) sh full
     (costs ∙ sym (c .cost .ensures) ∙ c .if-cost .left) (stops (c .in-Open .done) ∙ sym (c .if-not-may-stop .ensures tt)) in
-    record { kept = λ ins. ins; steps = step; lawful = λ w. onward (laws g) _ _ _ _ (step w); table = refl; refused = (refl, refl, refl) }
+    record { kept = λ ins. ins; steps = step; lawful = λ w. onward (laws-met (g .I·Item·met)) _ _ _ _ (step w); table = refl; lender = (refl, refl); refused = (refl, refl, refl) }
 
 pub returns : need.returns
 returns g c =
@@ -102,7 +95,8 @@ returns g c =
     record {
       kept = closes-in-step held t u leaf done _ (c .close .ensures);
       steps = told;
-      lawful = λ w. onward (laws g) _ _ _ _ (told w);
+      lawful = λ w. onward (laws-met (g .I·Item·met)) _ _ _ _ (told w);
       table = c .close .ensures .table;
+      lender = elim (c .if-gone .came) [ then-gone w ↦ subst (Lent sh) (sym (w .shelf-is)) (w .remove .ensures .lender) | else-gone w ↦ subst (Lent sh) (sym (w .shelf-is)) (w .leave-rest .ensures .lender) ];
       refused = tt;
     }

@@ -2,37 +2,33 @@
 use mathlib.Core.Path.{_≡_, refl, sym, subst, _∙_}
 use Prim.Native.Nat.{ℕ}
 use Rattle.std.proofs.shelf.Tests.{eqb-true}
-use Rattle.rules.specs.Kind.{KindLaws}
 use Rattle.rules.specs.Rules.{give-up, closed, Step}
+use Rattle.rules.proofs.Bounds.{laws-met}
 use Rattle.rules.proofs.Lawful.{onward}
 use Rattle.tree.specs.Answers.{grant-of}
 use Rattle.tree.specs.Trees.{state-of}
 use Rattle.tree.proofs.Grants.{none-open, not-own, give-up-refused}
 use Rattle.tree.proofs.Closings.{closes-in-step, give-up-mismatch, gives-up}
-use Rattle.tree.proofs.tree.Tree.give_up.Given as given
 use Rattle.tree.proofs.tree.Tree.give_up.Needs as need
-
-laws : (g : given.Over) → KindLaws (g .I·Item)
-laws g = record { at-cost = g .I·Item·met .«at_cost»; never-above = g .I·Item·met .«never_above»; left-costs = g .I·Item·met .«left_costs»; left-whole = g .I·Item·met .«left_whole» }
 
 pub returns-in-rest : need.returns-in-rest
 returns-in-rest g c =
     let t = c .args .self .now in
     let grant = grant-of (c .args .grant) in
     let step = give-up-refused (g .I·Item) t grant (none-open (g .I·Item) t grant (c .in-rest .is)) (c .args .shelf .now) in
-    record { kept = λ ins. ins; steps = step; lawful = λ w. onward (laws g) _ _ _ _ (step w); table = refl; refused = (refl, refl) }
+    record { kept = λ ins. ins; steps = step; lawful = λ w. onward (laws-met (g .I·Item·met)) _ _ _ _ (step w); table = refl; refused = (refl, refl) }
 
 pub returns-then-not-gave : need.returns-then-not-gave
 returns-then-not-gave g c =
     let t = c .args .self .now in
     let grant = grant-of (c .args .grant) in
     let step = give-up-refused (g .I·Item) t grant (not-own (g .I·Item) t grant (c .if-not-gave .ensures tt)) (c .args .shelf .now) in
-    record { kept = λ ins. ins; steps = step; lawful = λ w. onward (laws g) _ _ _ _ (step w); table = refl; refused = (refl, refl) }
+    record { kept = λ ins. ins; steps = step; lawful = λ w. onward (laws-met (g .I·Item·met)) _ _ _ _ (step w); table = refl; refused = (refl, refl) }
 
 pub returns-then-not-matches : need.returns-then-not-matches
 returns-then-not-matches g c =
     let step = give-up-mismatch (g .I·Item) (c .args .self .now) (grant-of (c .args .grant)) (c .in-Open .leaf) (c .in-Open .cost) (c .in-Open .done) (c .in-Open .is) (c .if-not-gave .ensures tt) (c .args .shelf .now) (sym (c .if-not-matches .ensures tt)) in
-    record { kept = λ ins. ins; steps = step; lawful = λ w. onward (laws g) _ _ _ _ (step w); table = refl; refused = (refl, refl) }
+    record { kept = λ ins. ins; steps = step; lawful = λ w. onward (laws-met (g .I·Item·met)) _ _ _ _ (step w); table = refl; refused = (refl, refl) }
 
 pub returns : need.returns
 returns g c =
@@ -48,7 +44,7 @@ returns g c =
     record {
       kept = closes-in-step held t u leaf done _ (c .close .ensures);
       steps = told;
-      lawful = λ w. onward (laws g) _ _ _ _ (told w);
+      lawful = λ w. onward (laws-met (g .I·Item·met)) _ _ _ _ (told w);
       table = c .close .ensures .table;
       refused = tt;
     }

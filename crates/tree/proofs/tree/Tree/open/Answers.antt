@@ -1,5 +1,5 @@
 -- Nothing waits in a new tree, and every tag is 0. Assumes nothing.
-use mathlib.Core.Path.{_≡_, refl, ap, _∙_}
+use mathlib.Core.Path.{refl, ap, _∙_}
 use mathlib.Core.Bool.{false}
 use native.Mathlib.Omega.{arith}
 use Rattle.classes.specs.Tables.{shape-of, weight-of}
@@ -22,10 +22,11 @@ returns g c =
     let d = c .args .draft in
     let ls = c .new .result .loads in
     let blank = c .new .ensures .loads in
-    let is = c .into-parts-house .ensures in
+    let is = c .into-parts-house .ensures .value in
     record {
       kept = none-stocked (shape-of (c .into-parts-house .result .1)) ls blank _ (c .new .ensures .store);
       valid = valid d;
       opened = λ sh w none. (λ i. state (is i .0) (shape-of (is i .1)) (weight-of (is i .1)) ls Free 0 0 (room sh) (lanes sh) w) ∙ opened d ls blank (room sh) w (lanes sh) none;
+      house = ap (λ p. p .0) is;
       table = ap (λ p. p .1) is;
     }

@@ -1,15 +1,11 @@
 -- A pulse is a step of the rules, and draws what is still to do. Assumes nothing.
 use mathlib.Core.Path.{_≡_, refl, sym, subst, _∙_}
-use mathlib.Core.Bool.{false}
-use Prim.Native.Nat.{ℕ, _+_, _-_, _≤_}
-use native.Mathlib.Omega.{arith}
-use lib.Dec.{eqb}
-use Rattle.std.specs.Orderings.{When}
+use Prim.Native.Nat.{_+_, _-_}
 use Rattle.std.specs.declared.result.Result.the-variants.{Ok}
 use Rattle.std.proofs.shelf.Tests.{eq-eqb, ne-eqb}
 use Rattle.base.specs.declared.units.Units.{Units}
-use Rattle.rules.specs.Kind.{KindLaws}
 use Rattle.rules.specs.Rules.{pulse, worked, Step}
+use Rattle.rules.proofs.Bounds.{laws-met}
 use Rattle.rules.proofs.Lawful.{onward}
 use Rattle.shelf.specs.declared.shelf.Shelf.{Shelf}
 use Rattle.tree.specs.Answers.{grant-of}
@@ -17,11 +13,7 @@ use Rattle.tree.specs.Draws.{Drew}
 use Rattle.tree.specs.Trees.{state-of}
 use Rattle.tree.specs.declared.phase.Phase.the-variants.{Open}
 use Rattle.tree.proofs.Grants.{at, none-open, not-own, pulse-refused, pulse-none, pulse-done}
-use Rattle.tree.proofs.tree.Tree.pulse.Given as given
 use Rattle.tree.proofs.tree.Tree.pulse.Needs as need
-
-laws : (g : given.Over) → KindLaws (g .I·Item)
-laws g = record { at-cost = g .I·Item·met .«at_cost»; never-above = g .I·Item·met .«never_above»; left-costs = g .I·Item·met .«left_costs»; left-whole = g .I·Item·met .«left_whole» }
 
 pub returns-in-rest : need.returns-in-rest
 returns-in-rest g c =
@@ -29,7 +21,7 @@ returns-in-rest g c =
     let grant = grant-of (c .args .grant .now) in
     let w = g .S·Server .work (c .args .server .now) in
     let step = pulse-refused (g .I·Item) t grant (none-open (g .I·Item) t grant (c .in-rest .is)) in
-    record { kept = λ ins. ins; steps = λ sh. step sh w; lawful = λ sh. onward (laws g) _ _ _ _ (step sh w); table = refl; drew = refl; refused = refl }
+    record { kept = λ ins. ins; steps = λ sh. step sh w; lawful = λ sh. onward (laws-met (g .I·Item·met)) _ _ _ _ (step sh w); table = refl; drew = refl; refused = refl }
 
 pub returns-then-not-gave : need.returns-then-not-gave
 returns-then-not-gave g c =
@@ -37,7 +29,7 @@ returns-then-not-gave g c =
     let grant = grant-of (c .args .grant .now) in
     let w = g .S·Server .work (c .args .server .now) in
     let step = pulse-refused (g .I·Item) t grant (not-own (g .I·Item) t grant (c .if-not-gave .ensures tt)) in
-    record { kept = λ ins. ins; steps = λ sh. step sh w; lawful = λ sh. onward (laws g) _ _ _ _ (step sh w); table = refl; drew = refl; refused = refl }
+    record { kept = λ ins. ins; steps = λ sh. step sh w; lawful = λ sh. onward (laws-met (g .I·Item·met)) _ _ _ _ (step sh w); table = refl; drew = refl; refused = refl }
 
 pub returns-then-done-cost : need.returns-then-done-cost
 returns-then-done-cost g c =
@@ -48,7 +40,7 @@ returns-then-done-cost g c =
     record {
       kept = λ ins. ins;
       steps = λ sh. step sh w;
-      lawful = λ sh. onward (laws g) _ _ _ _ (step sh w);
+      lawful = λ sh. onward (laws-met (g .I·Item·met)) _ _ _ _ (step sh w);
       table = refl;
       drew = subst (λ p. Drew (g .S·Server .draws) p (Ok none) (c .args .server .now) (c .args .server .now)) (sym (c .in-Open .is)) (rw (eq-eqb (c .in-Open .done) (c .in-Open .cost) (c .if-done-cost .taken)) (refl, refl));
       refused = tt;
@@ -72,7 +64,7 @@ returns g c =
     record {
       kept = λ ins. ins;
       steps = step;
-      lawful = λ sh. onward (laws g) _ _ _ _ (step sh);
+      lawful = λ sh. onward (laws-met (g .I·Item·met)) _ _ _ _ (step sh);
       table = refl;
       drew = subst (λ p. Drew (g .S·Server .draws) p (Ok (c .new .result)) s s′) (sym (c .in-Open .is)) (rw (ne-eqb done cost (c .if-done-cost .left)) (subst (λ e. g .S·Server .draws s (cost - done) e s′) (sym is) (c .draw-work .ensures)));
       refused = tt;

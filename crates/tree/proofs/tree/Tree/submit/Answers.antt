@@ -1,47 +1,42 @@
 -- A submission is a step of the rules. Assumes nothing.
-use mathlib.Core.Path.{_≡_, refl, sym, ap, subst, _∙_}
+use mathlib.Core.Path.{refl, sym, ap, subst, _∙_}
 use mathlib.Core.Logic.{_⊎_, inl, inr, ⊎-elim}
-use Prim.Native.Nat.{ℕ, _<_, _≤_}
+use Prim.Native.Nat.{ℕ, _<_}
 use native.Mathlib.Omega.{arith}
-use Rattle.base.specs.declared.refusal.Refusal.{Refusal}
 use Rattle.classes.specs.Tables.{shape-of}
 use Rattle.classes.proofs.Tables.{shape-sound}
-use Rattle.rules.specs.Kind.{KindLaws}
 use Rattle.rules.specs.Rules.{submit, refused, Step}
+use Rattle.rules.proofs.Bounds.{laws-met}
 use Rattle.rules.proofs.Lawful.{onward}
 use Rattle.shelf.specs.Lanes.{free}
 use Rattle.tree.specs.Trees.{state-of}
 use Rattle.tree.proofs.Counts.{few-waiting}
 use Rattle.tree.proofs.Shelves.{put-refused, put-done}
 use Rattle.tree.proofs.Submissions.{woken-stocked, woken-within, woken-counted, woken-few, woken-some, unknown, inner, costs-wrong, mismatched, no-place, lane-room, enters}
-use Rattle.tree.proofs.tree.Tree.submit.Given as given
 use Rattle.tree.proofs.tree.Tree.submit.Needs as need
-
-laws : (g : given.Over) → KindLaws (g .I·Item)
-laws g = record { at-cost = g .I·Item·met .«at_cost»; never-above = g .I·Item·met .«never_above»; left-costs = g .I·Item·met .«left_costs»; left-whole = g .I·Item·met .«left_whole» }
 
 pub returns-then-class-len : need.returns-then-class-len
 returns-then-class-len g c =
     let step = unknown (g .I·Item) (c .args .self .now) (c .args .shelf .now) (c .args .class) (c .args .item) (omega (arith, c .len .ensures)) in
-    record { kept = λ ins. ins; steps = step; lawful = λ w. onward (laws g) _ _ _ _ (step w); table = refl; refused = (refl, refl) }
+    record { kept = λ ins. ins; steps = step; lawful = λ w. onward (laws-met (g .I·Item·met)) _ _ _ _ (step w); table = refl; lender = (refl, refl); refused = (refl, refl) }
 
 pub returns-then-not-is-leaf : need.returns-then-not-is-leaf
 returns-then-not-is-leaf g c =
     let step = inner (g .I·Item) (c .args .self .now) (c .args .shelf .now) (c .args .class) (c .args .item) (omega (arith, c .len .ensures)) (sym (c .if-not-is-leaf .ensures tt)) in
-    record { kept = λ ins. ins; steps = step; lawful = λ w. onward (laws g) _ _ _ _ (step w); table = refl; refused = (refl, refl) }
+    record { kept = λ ins. ins; steps = step; lawful = λ w. onward (laws-met (g .I·Item·met)) _ _ _ _ (step w); table = refl; lender = (refl, refl); refused = (refl, refl) }
 
 pub returns-then-cost-lt1 : need.returns-then-cost-lt1
 returns-then-cost-lt1 g c =
     let x = g .I·Item .costs (c .args .item) in
     let off : (x < 1) ⊎ (65535 < x) = ⊎-elim (λ l. inl (omega (arith, c .cost-cost .ensures))) (λ l. inr (omega (arith, c .cost-cost .ensures, l .1))) (c .then-cost-lt1 .either) in
     let step = costs-wrong (g .I·Item) (c .args .self .now) (c .args .shelf .now) (c .args .class) (c .args .item) (omega (arith, c .len .ensures)) (sym (c .if-not-is-leaf .ensures tt)) off in
-    record { kept = λ ins. ins; steps = step; lawful = λ w. onward (laws g) _ _ _ _ (step w); table = refl; refused = (refl, refl) }
+    record { kept = λ ins. ins; steps = step; lawful = λ w. onward (laws-met (g .I·Item·met)) _ _ _ _ (step w); table = refl; lender = (refl, refl); refused = (refl, refl) }
 
 pub returns-then-not-matches : need.returns-then-not-matches
 returns-then-not-matches g c =
     let step = mismatched (g .I·Item) (c .args .self .now) (c .args .shelf .now) (c .args .class) (c .args .item) (omega (arith, c .len .ensures)) (sym (c .if-not-is-leaf .ensures tt))
     (omega (arith, c .cost-cost .ensures)) (omega (arith, c .cost-cost .ensures)) (c .if-not-matches .ensures tt) in
-    record { kept = λ ins. ins; steps = step; lawful = λ w. onward (laws g) _ _ _ _ (step w); table = refl; refused = (refl, refl) }
+    record { kept = λ ins. ins; steps = step; lawful = λ w. onward (laws-met (g .I·Item·met)) _ _ _ _ (step w); table = refl; lender = (refl, refl); refused = (refl, refl) }
 
 pub returns-in-Err : need.returns-in-Err
 returns-in-Err g c =
@@ -54,7 +49,7 @@ returns-in-Err g c =
     let at = no-place (g .I·Item) t sh (c .args .class) (c .args .item) known (sym (c .if-not-is-leaf .ensures tt)) (omega (arith, c .cost-cost .ensures)) (omega (arith, c .cost-cost .ensures)) (c .if-not-matches .ensures tt) none w in
     subst (λ sh′. Step (g .I·Item) (state-of t sh w) (submit (c .args .class) (c .args .item)) (refused (c .in-Err .refusal)) (state-of t sh′ w)) (sym same)
     (subst (λ e. Step (g .I·Item) (state-of t sh w) (submit (c .args .class) (c .args .item)) (refused e) (state-of t sh w)) (sym full) at) in
-    record { kept = λ ins. ins; steps = step; lawful = λ w. onward (laws g) _ _ _ _ (step w); table = refl; refused = (refl, same) }
+    record { kept = λ ins. ins; steps = step; lawful = λ w. onward (laws-met (g .I·Item·met)) _ _ _ _ (step w); table = refl; lender = c .in-Err .ensures tt .lender; refused = (refl, same) }
 
 pub wake-requires : need.wake-requires
 wake-requires g c κs =
@@ -86,7 +81,8 @@ returns g c =
     record {
       kept = λ ins. woken-stocked (shape-of (t .table)) (t .queue .loads) (c .wake .last .self .loads) (c .args .class) (c .wake .ensures .loads) _ _ ins (c .wake .ensures .held);
       steps = step;
-      lawful = λ w. onward (laws g) _ _ _ _ (step w);
+      lawful = λ w. onward (laws-met (g .I·Item·met)) _ _ _ _ (step w);
       table = refl;
+      lender = c .in-rest .ensures tt .lender;
       refused = tt;
     }
