@@ -1,4 +1,6 @@
 //! Units of work, parts of tags, weights, and the refusals of every layer.
+#![tactic(auto)]
+
 pub mod refusal;
 pub mod units;
 pub mod weight;

@@ -1,4 +1,6 @@
 //! Names, drafts and class tables on examples.
+#![tactic(auto)]
+
 #[cfg(test)]
 mod tests {
     use base::refusal::Refusal;

@@ -1,4 +1,6 @@
 //! What an item is to the scheduler, and the two kinds of items.
+#![tactic(auto)]
+
 ghost use Rattle.std.specs.Prelude.{◌≡◌, Bool, true, false, ℕ, ◌-◌, ◌<◌, leb, eqb};
 ghost use Rattle.items.specs.Kinds.{quantum_left};
 ghost use Rattle.std.proofs.Common.{rules};

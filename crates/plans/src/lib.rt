@@ -1,4 +1,6 @@
 //! What an input sets up: a link, and an item to play on it.
+#![tactic(auto)]
+
 pub mod fault;
 pub mod lex;
 pub mod line;

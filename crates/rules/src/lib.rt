@@ -1,4 +1,6 @@
 //! The rules of the five calls on a class tree, and the laws that no history of calls breaks.
+#![tactic(auto)]
+
 ghost use Rattle.std.specs.Prelude.{◌≡◌, true};
 ghost use Rattle.rules.specs.Figures.{figures, all_agree};
 ghost use Rattle.rules.specs.Example.{played, expected};

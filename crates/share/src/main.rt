@@ -1,4 +1,6 @@
 //! The same film by one loader and by four, beside touch, on the same stalling drive.
+#![tactic(auto)]
+
 use sharing::report::report;
 use std::io;
 

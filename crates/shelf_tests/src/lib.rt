@@ -1,4 +1,6 @@
 //! What items and a shelf do on examples, at quanta and at blocks.
+#![tactic(auto)]
+
 #[cfg(test)]
 mod tests {
     use base::refusal::Refusal;

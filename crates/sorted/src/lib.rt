@@ -1,4 +1,6 @@
 //! A tag store by one sorted list.
+#![tactic(auto)]
+
 mod entry;
 mod list;
 mod store;

@@ -1,4 +1,6 @@
 //! Tells how long a stalling link holds one item: standard input to standard output.
+#![tactic(auto)]
+
 use stalling::stall::stall;
 use std::io;
 use std::io::Read;

@@ -1,4 +1,6 @@
 //! How long a stalling link holds one item.
+#![tactic(auto)]
+
 pub mod draw;
 pub mod listing;
 pub mod play;

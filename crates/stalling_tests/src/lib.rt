@@ -1,4 +1,6 @@
 //! What `stall` prints: items done, items that are stopped, and each fault.
+#![tactic(auto)]
+
 #[cfg(test)]
 mod tests {
     use stalling::stall::stall;

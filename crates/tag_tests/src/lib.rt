@@ -1,4 +1,6 @@
 //! Both tag stores, driven by the same tables.
+#![tactic(auto)]
+
 #[cfg(test)]
 mod tests {
     use base::units::Parts;

@@ -1,4 +1,6 @@
 //! Tag stores: which class stands in which group, with which tag, and what is least there.
+#![tactic(auto)]
+
 ghost use Rattle.std.specs.Prelude.{◌≡◌, if◌then◌else◌, Some, None};
 ghost use Rattle.tags.specs.Held.{Held, Small, nothing, with, tag_of, mayPut, leastOf, Looks};
 

@@ -1,4 +1,6 @@
 //! The words, numbers and lines of a trace.
+#![tactic(auto)]
+
 pub mod header;
 pub mod kind;
 pub mod line;

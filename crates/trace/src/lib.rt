@@ -1,4 +1,6 @@
 //! Reading a trace: its form, its classes, its link and its outages.
+#![tactic(auto)]
+
 pub mod error;
 pub mod fault;
 mod part;

@@ -1,4 +1,6 @@
 //! Traces and what is read of them. The verdicts are worked out by hand from the grammar and the order of the faults.
+#![tactic(auto)]
+
 #[cfg(test)]
 mod tests {
     use links::server::Server;

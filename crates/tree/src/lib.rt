@@ -1,4 +1,6 @@
 //! A class tree, its grants, and its five calls.
+#![tactic(auto)]
+
 pub mod load;
 pub mod phase;
 pub mod queue;

@@ -1,4 +1,6 @@
 //! Plays a trace: standard input to standard output.
+#![tactic(auto)]
+
 use play::play::play;
 use std::io;
 use std::io::Read;

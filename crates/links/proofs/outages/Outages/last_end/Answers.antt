@@ -10,7 +10,7 @@ use Rattle.links.proofs.outages.Outages.last_end.Goals as goal
 read : (c : goal.In-Some) → ending c.in-Some.last.now ≡ last_end 0 (listed c.args.self.now)
 read c =
     let item = c.in-Some.ensures.item in
-    ap ending item.1 ∙ sym (last_read 0 c.as-slice.result.now _ (ltb-true _ _ (sym item.0))) ∙ ap (last_end 0) c.as-slice.ensures
+    ap ending item.1 ∙ sym (last_read 0 c.as_slice.result.now _ (ltb-true _ _ (sym item.0))) ∙ ap (last_end 0) c.as_slice.ensures
 
 pub overflow-add-result : goal.overflow-add-result
 overflow-add-result c =
