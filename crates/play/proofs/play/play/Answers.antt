@@ -15,14 +15,14 @@ made_so P Q (Err e) f p = tt
 pub returns-in-Quantum : goal.returns-in-Quantum
 returns-in-Quantum c =
     let t = c.in-Ok.trace in
-    made_so (Lists QuantumItem link (λ n. record { task = 0; time = n }) 256 t.draft t.link c.as-slice-events.result.now) (Prints c.args.text.now) c.list.result
-    (λ out l. quanta t out c.in-Ok.ensures c.in-Quantum.is (subst (λ es. Lists QuantumItem link (λ n. record { task = 0; time = n }) 256 t.draft t.link es out) c.as-slice-events.ensures.value l)) c.list.ensures
+    made_so (Lists QuantumItem link (λ n. record { task = 0; time = n }) 256 t.draft t.link c.as_slice-events.result.now) (Prints c.args.text.now) c.list.result
+    (λ out l. quanta t out c.in-Ok.ensures c.in-Quantum.is (subst (λ es. Lists QuantumItem link (λ n. record { task = 0; time = n }) 256 t.draft t.link es out) c.as_slice-events.ensures.value l)) c.list.ensures
 
 pub returns-in-Ok : goal.returns-in-Ok
 returns-in-Ok c =
     let t = c.in-Ok.trace in
-    made_so (Lists BlockItem link (λ n. record { first = 0; length = n }) 256 t.draft t.link c.as-slice-events.result.now) (Prints c.args.text.now) c.list-in-Block.result
-    (λ out l. blocks t out c.in-Ok.ensures c.in-Block.is (subst (λ es. Lists BlockItem link (λ n. record { first = 0; length = n }) 256 t.draft t.link es out) c.as-slice-events.ensures.value l)) c.list-in-Block.ensures
+    made_so (Lists BlockItem link (λ n. record { first = 0; length = n }) 256 t.draft t.link c.as_slice-events.result.now) (Prints c.args.text.now) c.list-in-Block.result
+    (λ out l. blocks t out c.in-Ok.ensures c.in-Block.is (subst (λ es. Lists BlockItem link (λ n. record { first = 0; length = n }) 256 t.draft t.link es out) c.as_slice-events.ensures.value l)) c.list-in-Block.ensures
 
 pub returns-in-Fault : goal.returns-in-Fault
 returns-in-Fault c =

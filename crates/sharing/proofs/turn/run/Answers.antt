@@ -5,8 +5,8 @@ use Rattle.tree.specs.Trees.{state_of}
 use Rattle.sharing.proofs.Turns.{again, whole}
 use Rattle.sharing.proofs.turn.run.Goals as goal
 
-pub give-up-requires : goal.give-up-requires
-give-up-requires g c =
+pub give_up-requires : goal.give_up-requires
+give_up-requires g c =
     let sh = c.args.shelf.now in
     let w = g.S.Server.work c.args.server.now in
     let grant = grant_of c.args.grant in

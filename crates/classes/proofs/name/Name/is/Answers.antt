@@ -6,5 +6,5 @@ use Rattle.classes.proofs.name.Name.is.Goals as goal
 
 pub returns : goal.returns
 returns c =
-    same_from_decides _ _ (slice_eq-Decides Decides-eqb _ _ _ c.eq.ensures) (bytes_eq-Decides c.as-bytes.result.now c.args.text.now)
-    ∙ ap (λ w. bytes_eq w c.args.text.now) c.as-bytes.ensures
+    same_from_decides _ _ (slice_eq-Decides Decides-eqb _ _ _ c.eq.ensures) (bytes_eq-Decides c.as_bytes.result.now c.args.text.now)
+    ∙ ap (λ w. bytes_eq w c.args.text.now) c.as_bytes.ensures

@@ -4,14 +4,14 @@ use Rattle.classes.proofs.Growth.{after, is_grown}
 use Rattle.classes.proofs.Tables.{row_read}
 use Rattle.classes.proofs.table.ClassTable.grow.Goals as goal
 
-pub overflow-add-self : goal.overflow-add-self
-overflow-add-self c =
+pub overflow_add-self : goal.overflow_add-self
+overflow_add-self c =
     let t = c.args.self.now in
     let above = row_read t c.args.parent c.index-self-parent.result c.requires.known in
     omega (arith, ap (λ (r : Class). r.depth) above, t.shallow c.args.parent)
 
-pub invariant-of-self : goal.invariant-of-self
-invariant-of-self c =
+pub invariant_of-self : goal.invariant_of-self
+invariant_of-self c =
     let t = c.args.self.now in
     let p = c.args.parent in
     let d = c.index-self-parent.result in

@@ -6,5 +6,5 @@ use Rattle.classes.proofs.table.ClassTable.is_leaf.Goals as goal
 
 pub returns : goal.returns
 returns c =
-    sym (not-not c.is-none.result) ∙ ap not (sym c.is-none.ensures ∙ ap is_some c.first-child.ensures)
+    sym (not-not c.is_none.result) ∙ ap not (sym c.is_none.ensures ∙ ap is_some c.first_child.ensures)
     ∙ leaf_is (shape_of c.args.self.now) c.args.number

@@ -11,8 +11,8 @@ use Rattle.heap.proofs.heaps.Heaps.append.Goals as goal
 pub write-requires : goal.write-requires
 write-requires c = (c.requires.known.0, heap_room c.args.self.now c.args.group c.args.class c.requires.known.0 c.requires.known.1 c.requires.free, c.requires.known.1)
 
-pub invariant-of-self : goal.invariant-of-self
-invariant-of-self c =
+pub invariant_of-self : goal.invariant_of-self
+invariant_of-self c =
     let s = c.args.self.now in
     let g = c.args.group in
     let k = c.args.class in

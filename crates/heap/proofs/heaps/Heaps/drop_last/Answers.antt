@@ -6,16 +6,16 @@ use Rattle.heap.proofs.Kept.{index_of, set_sets}
 use Rattle.heap.proofs.Writes.{kept_set}
 use Rattle.heap.proofs.heaps.Heaps.drop_last.Goals as goal
 
-pub invariant-of-self : goal.invariant-of-self
-invariant-of-self c =
+pub invariant_of-self : goal.invariant_of-self
+invariant_of-self c =
     let s = c.args.self.now in
     let g = c.args.group in
     let n = size s.lens g - 1 in
-    let k = c.class-at-class.result in
-    let kl = c.class-at-class.ensures.known in
+    let k = c.class_at-class.result in
+    let kl = c.class_at-class.ensures.known in
     let most = s.most g in
     let p = set_sets groupOr None s.pairs k None (let e = s.classes in omega arith) in
-    let at = subst (λ j. Sets (groupAt s.pairs) (groupAt (set s.pairs k None)) j 64) c.class-at-class.ensures.value p in
+    let at = subst (λ j. Sets (groupAt s.pairs) (groupAt (set s.pairs k None)) j 64) c.class_at-class.ensures.value p in
     let m = set_sets (λ v. v) 0 s.lens g n (let e = s.groups in let gl = c.requires.0 in omega arith) in
     let x = drop_kept (index_of s) g n (let l = c.requires.1 in omega arith) at m in (
       length-set s.pairs k None ∙ s.classes,

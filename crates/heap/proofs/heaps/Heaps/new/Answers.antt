@@ -3,8 +3,8 @@ use Rattle.heap.specs.Index.{fits, groupOr}
 use Rattle.heap.proofs.Writes.{getD_filled}
 use Rattle.heap.proofs.heaps.Heaps.new.Goals as goal
 
-pub invariant-of-result : goal.invariant-of-result
-invariant-of-result c = (
+pub invariant_of-result : goal.invariant_of-result
+invariant_of-result c = (
   refl,
   (
     refl,

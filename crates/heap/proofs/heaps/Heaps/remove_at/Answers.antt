@@ -17,7 +17,7 @@ pub returns : goal.returns
 returns c =
     let s = c.args.self.now in
     let t = c.exchange.new.self in
-    let u = c.drop-last.new.self in
+    let u = c.drop_last.new.self in
     let g = c.args.group in
     let i = c.args.place in
     let r = c.exchange.ensures.reordered in
@@ -25,11 +25,11 @@ returns c =
     let last : count t g - 1 ≡ count s g - 1 = ap (λ n. n - 1) (sym (count_kept s t g r g)) in
     let is : j ≡ count s g - 1 = ap (λ n. n - 1) c.len-last.ensures in
     let class : classes t g (count t g - 1) ≡ classes s g i = ap (classes t g) (last ∙ sym is) ∙ (c.exchange.ensures.classes j ∙ second (classes s g) i j) in
-    let lens : u.lens ≡ set s.lens g (count s g - 1) = c.drop-last.ensures.lens ∙ (ap (λ l. set l g (count t g - 1)) r.lens ∙ ap (set s.lens g) last) in
+    let lens : u.lens ≡ set s.lens g (count s g - 1) = c.drop_last.ensures.lens ∙ (ap (λ l. set l g (count t g - 1)) r.lens ∙ ap (set s.lens g) last) in
     let counts = count_set s u g (count s g - 1) c.requires.0 lens in
     record {
-      pairs = c.drop-last.ensures.pairs ∙ (ap (λ p. set p (classes t g (count t g - 1)) None) r.pairs ∙ ap (λ k. set s.pairs k None) class);
+      pairs = c.drop_last.ensures.pairs ∙ (ap (λ p. set p (classes t g (count t g - 1)) None) r.pairs ∙ ap (λ k. set s.pairs k None) class);
       lens = lens;
-      keys = λ k l. c.drop-last.ensures.keys g k l ∙ (c.exchange.ensures.keys k ∙ ap (λ n. exchanged (keys s g) i n k) (is ∙ sym counts.0));
-      others = λ h k n l. c.drop-last.ensures.keys h k (let e = counts.1 h n in omega arith) ∙ r.others h k n;
+      keys = λ k l. c.drop_last.ensures.keys g k l ∙ (c.exchange.ensures.keys k ∙ ap (λ n. exchanged (keys s g) i n k) (is ∙ sym counts.0));
+      others = λ h k n l. c.drop_last.ensures.keys h k (let e = counts.1 h n in omega arith) ∙ r.others h k n;
     }

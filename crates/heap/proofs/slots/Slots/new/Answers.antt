@@ -3,5 +3,5 @@ use Rattle.std.proofs.lemmas.List.{get_or-replicate}
 use Rattle.heap.proofs.Writes.{cell_filled}
 use Rattle.heap.proofs.slots.Slots.new.Goals as goal
 
-pub invariant-of-result : goal.invariant-of-result
-invariant-of-result c = (refl, ((λ g l. ap length (get_or-replicate 64 g (replicate 64 0) [] l)), (refl, ((λ g i. omega (arith, cell_filled 64 64 g i)), tt))))
+pub invariant_of-result : goal.invariant_of-result
+invariant_of-result c = (refl, ((λ g l. ap length (get_or-replicate 64 g (replicate 64 0) [] l)), (refl, ((λ g i. omega (arith, cell_filled 64 64 g i)), tt))))

@@ -4,20 +4,20 @@ use Rattle.heap.proofs.Kept.{all_ordered, count_set}
 use Rattle.heap.proofs.Sifts.{fewer_order}
 use Rattle.heap.proofs.store.HeapStore.remove.Goals as goal
 
-pub invariant-of-self : goal.invariant-of-self
-invariant-of-self c =
+pub invariant_of-self : goal.invariant_of-self
+invariant_of-self c =
     let s = c.args.self.now in
     let r = c.settle.ensures.reordered in
-    (all_ordered s.heaps c.settle.new.self c.args.group _ c.requires.known.0 s.ordered (r.lens ∙ c.remove-at.ensures.lens) (λ h i n l. r.others h i n ∙ c.remove-at.ensures.others h i n l) c.settle.ensures.ordered, tt)
+    (all_ordered s.heaps c.settle.new.self c.args.group _ c.requires.known.0 s.ordered (r.lens ∙ c.remove_at.ensures.lens) (λ h i n l. r.others h i n ∙ c.remove_at.ensures.others h i n l) c.settle.ensures.ordered, tt)
 
-pub invariant-of-self-else-place-len : goal.invariant-of-self-else-place-len
-invariant-of-self-else-place-len c =
+pub invariant_of-self-else-place-len : goal.invariant_of-self-else-place-len
+invariant_of-self-else-place-len c =
     let s = c.args.self.now.heaps in
-    let t = c.remove-at.new.self in
+    let t = c.remove_at.new.self in
     let g = c.args.group in
     let was = c.args.self.now.ordered in
-    let n = (count_set s t g _ c.requires.known.0 c.remove-at.ensures.lens).0 in
+    let n = (count_set s t g _ c.requires.known.0 c.remove_at.ensures.lens).0 in
     let len = c.len.ensures in
     let past = c.if-place-len.false in
-    let here = fewer_order (keys s g) (keys t g) (count t g) (count s g) c.place-of-place.result (was g) (omega arith) (omega arith) c.remove-at.ensures.keys in
-    (all_ordered s t g _ c.requires.known.0 was c.remove-at.ensures.lens c.remove-at.ensures.others here, tt)
+    let here = fewer_order (keys s g) (keys t g) (count t g) (count s g) c.place_of-place.result (was g) (omega arith) (omega arith) c.remove_at.ensures.keys in
+    (all_ordered s t g _ c.requires.known.0 was c.remove_at.ensures.lens c.remove_at.ensures.others here, tt)

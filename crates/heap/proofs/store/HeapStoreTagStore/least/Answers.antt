@@ -20,10 +20,10 @@ pub returns : goal.returns
 returns c =
     let h = c.args.self.now.heaps in
     let g = c.args.group in
-    let k = c.class-at-class.result in
+    let k = c.class_at-class.result in
     let n = c.len.ensures in
     let some = c.if-len-eq0.false in
     let root = root_least h g c.if-group-ge64.false (omega (arith, some)) (c.args.self.now.ordered g) in
-    let class = subst (λ j. Least (pair_at h.pairs) g j (tagOr (pair_at h.pairs j)) 64) (sym c.class-at-class.ensures.value) root in
+    let class = subst (λ j. Least (pair_at h.pairs) g j (tagOr (pair_at h.pairs j)) 64) (sym c.class_at-class.ensures.value) root in
     let both = subst (λ t. Least (pair_at h.pairs) g k t 64) (sym c.tag.ensures) class in
     record { value = looks_least (pair_at h.pairs) g (Some (k, c.tag.result)) both; looks = both }

@@ -4,8 +4,8 @@ use Rattle.std.proofs.lemmas.List.{length-set}
 use Rattle.links.proofs.Order.{stored}
 use Rattle.links.proofs.outages.Outages.add.Goals as goal
 
-pub invariant-of-self : goal.invariant-of-self
-invariant-of-self c =
+pub invariant_of-self : goal.invariant_of-self
+invariant_of-self c =
     let s = c.args.self.now in
     let after = stored s.table s.used c.args.outage s.size s.few s.sorted (sym c.if-not-takes.ensures) in
     (length-set _ _ _ ∙ s.size, (omega (arith, after.free), (after.sorted, tt)))

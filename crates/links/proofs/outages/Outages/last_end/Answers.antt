@@ -12,8 +12,8 @@ read c =
     let item = c.in-Some.ensures.item in
     ap ending item.1 ∙ sym (last_read 0 c.as_slice.result.now _ (ltb-true _ _ (sym item.0))) ∙ ap (last_end 0) c.as_slice.ensures
 
-pub overflow-add-result : goal.overflow-add-result
-overflow-add-result c =
+pub overflow_add-result : goal.overflow_add-result
+overflow_add-result c =
     let within = last_within 0 (listed c.args.self.now) (lit≤ tt) c.args.self.now.sorted in
     omega (arith, within, read c)
 

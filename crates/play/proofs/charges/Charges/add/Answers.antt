@@ -20,8 +20,8 @@ loop-next-preserved g c = λ known.
     let class = c.in-Some.class in
     let was = c.loop-next.invariant known in
     let below = next_known ok leaf known next class c.in-Some.is was.0 in
-    walk_more ok leaf known next class c.in-Some.is was.0 (Charged c.args.self.now c.args.done.0 c.add-to.new.self) c.parent-next.result c.parent-next.ensures
-    (charging_more c.args.self.now c.loop-next.self c.add-to.new.self c.args.done.0 (came (shape_of table) leaf next) class (next_new ok leaf known next class c.in-Some.is was.0).0 was.1 (c.add-to.ensures (omega (arith, below, table.few))))
+    walk_more ok leaf known next class c.in-Some.is was.0 (Charged c.args.self.now c.args.done.0 c.add_to.new.self) c.parent-next.result c.parent-next.ensures
+    (charging_more c.args.self.now c.loop-next.self c.add_to.new.self c.args.done.0 (came (shape_of table) leaf next) class (next_new ok leaf known next class c.in-Some.is was.0).0 was.1 (c.add_to.ensures (omega (arith, below, table.few))))
 
 pub returns : goal.returns
 returns g c = λ known. walk_all (shape_sound c.args.tree.now.table) c.args.leaf known (Charged c.args.self.now c.args.done.0 c.loop-next.self) c.loop-next.next c.in-default.is (c.loop-next.invariant known)

@@ -13,8 +13,8 @@ pub loop-number-preserved : goal.loop-number-preserved
 loop-number-preserved g c =
     let table = c.args.self.now.tree.table in
     let known : c.loop-number.number < table.len = omega (arith, c.loop-number-test.true, c.len-number-end.ensures) in
-    sums_more table (charged_at c.args.self.now.charges) c.loop-number.number c.args.listing.now c.loop-number.listing c.push.new.self c.unwrap-or.result c.of.result
-    (name_is table c.loop-number.number c.name.result c.unwrap-or.result _ c.name.ensures c.unwrap-or.ensures known) c.of.ensures c.loop-number.invariant c.push.ensures
+    sums_more table (charged_at c.args.self.now.charges) c.loop-number.number c.args.listing.now c.loop-number.listing c.push.new.self c.unwrap_or.result c.of.result
+    (name_is table c.loop-number.number c.name.result c.unwrap_or.result _ c.name.ensures c.unwrap_or.ensures known) c.of.ensures c.loop-number.invariant c.push.ensures
 
 pub returns : goal.returns
 returns g c =

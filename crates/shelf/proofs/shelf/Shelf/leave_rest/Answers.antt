@@ -6,8 +6,8 @@ use Rattle.shelf.proofs.Items.{head_lane, replace_lane}
 use Rattle.shelf.proofs.Prices.{rest_first, rest_priced}
 use Rattle.shelf.proofs.shelf.Shelf.leave_rest.Goals as goal
 
-pub returns-then-not-stops-early : goal.returns-then-not-stops-early
-returns-then-not-stops-early g c =
+pub returns-then-not-stops_early : goal.returns-then-not-stops_early
+returns-then-not-stops_early g c =
     let s = c.args.self.now in
     let f = s.fits in
     let d = c.args.done in
@@ -16,7 +16,7 @@ returns-then-not-stops-early g c =
     let costs = g.row.I-Item.costs in
     let stops = g.row.I-Item.stops in
     let is = head_lane s.places.now s.table f c.args.lane c.in-Some.place c.index-self-place.result l (sym c.in-Some.ensures.value) in
-    let late : (ltb d (costs x) && stops x d) ≡ false = sym c.if-not-stops-early.ensures in
+    let late : (ltb d (costs x) && stops x d) ≡ false = sym c.if-not-stops_early.ensures in
     record {
       value = sym (rest_first costs stops g.row.I-Item.left (lanes s c.args.lane) x d is ∙ cond-false (ltb d (costs x) && stops x d) _ _ late);
       lanes = λ j. cond_both (eqb j c.args.lane) (lanes s j) (lanes s j) (λ xs. lanes s j ≡ xs) (λ _. refl) (λ _. refl);
@@ -40,7 +40,7 @@ returns g c =
     let costs = g.row.I-Item.costs in
     let stops = g.row.I-Item.stops in
     let is = head_lane s.places.now t f k c.in-Some.place c.index-self-place.result l at in
-    let early : (ltb d (costs x) && stops x d) ≡ true = sym c.if-not-stops-early.ensures in
+    let early : (ltb d (costs x) && stops x d) ≡ true = sym c.if-not-stops_early.ensures in
     let both = and_parts (ltb d (costs x)) (stops x d) early in
     let less = ltb-true d (costs x) both.0 in
     let after = replace_lane s.places.now t f k c.in-Some.place c.rest-rest.result l at in

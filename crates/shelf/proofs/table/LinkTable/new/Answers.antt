@@ -12,15 +12,15 @@ loop-i-preserved c =
       below_more _ _ (λ k h. let ne : k ≢ i = omega arith in rw get_or-set_other (c.loop-i.invariant.1 k h)) (rw get_or-set_same),
     )
 
-pub invariant-of-result : goal.invariant-of-result
-invariant-of-result c =
+pub invariant_of-result : goal.invariant_of-result
+invariant_of-result c =
     let up : (k : ℕ) → k < 256 → get_or c.loop-i.next k 0 ≡ k + 1 = λ k l. c.loop-i.invariant.1 k (omega arith) in
     let few : c.min-size.result ≤ 256 = omega (arith, c.min-size.ensures) in
-    let t = table c.loop-i.next c.min-size.result c.saturating-sub.result c.loop-i.invariant.0 up few c.saturating-sub.ensures in
+    let t = table c.loop-i.next c.min-size.result c.saturating_sub.result c.loop-i.invariant.0 up few c.saturating_sub.ensures in
     (t.long, (t.all, (t.inside, (t.apart, (t.ends, tt)))))
 
 pub returns : goal.returns
 returns c =
     let up : (k : ℕ) → k < 256 → get_or c.loop-i.next k 0 ≡ k + 1 = λ k l. c.loop-i.invariant.1 k (omega arith) in
     let few : c.min-size.result ≤ 256 = omega (arith, c.min-size.ensures) in
-    record { size = c.min-size.ensures; spare = length_walk _ _ _ ∙ c.min-size.ensures; lines = empty c.loop-i.next _ _ c.loop-i.invariant.0 up few c.saturating-sub.ensures }
+    record { size = c.min-size.ensures; spare = length_walk _ _ _ ∙ c.min-size.ensures; lines = empty c.loop-i.next _ _ c.loop-i.invariant.0 up few c.saturating_sub.ensures }

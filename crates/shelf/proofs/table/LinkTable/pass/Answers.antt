@@ -13,14 +13,14 @@ bounds-self-place c =
 pub bounds-self-last : goal.bounds-self-last
 bounds-self-last c = moves.last_in c.args.self.now c.args.from c.args.to _ c.pick-head.result c.requires.known c.requires.some c.pick-last.ensures c.pick-head.ensures
 
-pub overflow-add-self : goal.overflow-add-self
-overflow-add-self c =
+pub overflow_add-self : goal.overflow_add-self
+overflow_add-self c =
     let t = c.args.self.now in
     let most = at_most t.lens c.args.to (omega arith) in
     omega arith
 
-pub invariant-of-self : goal.invariant-of-self
-invariant-of-self c =
+pub invariant_of-self : goal.invariant_of-self
+invariant_of-self c =
     let t = moves.after c.args.self.now c.args.from c.args.to _ _ c.requires.known c.requires.some c.pick-last.ensures c.pick-head.ensures in
     (t.long, (t.all, (t.inside, (t.apart, (t.ends, tt)))))
 

@@ -13,8 +13,8 @@ insert-requires c =
     let none = free_none (row s.list.entries) s.list.len new.class s.once c.requires.free in
     (c.place-at.ensures.most, rows_room (sorted_of s) new.class c.requires.known.1 none)
 
-pub invariant-of-self : goal.invariant-of-self
-invariant-of-self c =
+pub invariant_of-self : goal.invariant_of-self
+invariant_of-self c =
     let s = c.args.self.now in
     let r = row s.list.entries in
     let n = s.list.len in

@@ -7,8 +7,8 @@ use Rattle.sorted.specs.Means.{held_less}
 use Rattle.sorted.proofs.Sorts.{Sorted, sorted_of, sorted_less}
 use Rattle.sorted.proofs.store.SortedStore.remove.Goals as goal
 
-pub invariant-of-self : goal.invariant-of-self
-invariant-of-self c =
+pub invariant_of-self : goal.invariant_of-self
+invariant_of-self c =
     let s = c.args.self.now in
     let t = c.remove.new.self in
     let len = c.remove.ensures.len in

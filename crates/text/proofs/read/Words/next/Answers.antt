@@ -5,7 +5,7 @@ use Rattle.text.proofs.Splits.{splits_free, splits_cut}
 use Rattle.text.proofs.read.Words.next.Goals as goal
 
 pub returns-in-Some : goal.returns-in-Some
-returns-in-Some c = ap after c.in-ok-line.was ∙ ap splits c.in-Some.ensures.1 ∙ splits_cut _ _ c.in-Some.ensures.0
+returns-in-Some c = ap after c.in_ok-line.was ∙ ap splits c.in-Some.ensures.1 ∙ splits_cut _ _ c.in-Some.ensures.0
 
 pub returns-in-None : goal.returns-in-None
-returns-in-None c = ap after c.in-ok-line.was ∙ splits_free _ c.in-None.ensures
+returns-in-None c = ap after c.in_ok-line.was ∙ splits_free _ c.in-None.ensures

@@ -9,8 +9,8 @@ loop-next-init g c =
     let t = c.args.table.now in
     settling_none (shape_of t) (weight_of t) c.args.done c.args.gone (shape_sound t) c.args.leaf c.requires.known c.args.self.now.loads (g.T.TagStore.held c.args.self.now.store)
 
-pub settle-class-next-requires : goal.settle-class-next-requires
-settle-class-next-requires g c =
+pub settle_class-next-requires : goal.settle_class-next-requires
+settle_class-next-requires g c =
     let t = c.args.table.now in
     record {
       known = next_known (shape_sound t) c.args.leaf c.requires.known c.loop-next.next c.in-Some.class c.in-Some.is c.loop-next.invariant.0;
@@ -20,13 +20,13 @@ settle-class-next-requires g c =
 
 pub loop-next-smaller : goal.loop-next-smaller
 loop-next-smaller g c =
-    next_falls (shape_sound c.args.table.now) c.args.leaf c.requires.known c.loop-next.next c.in-Some.class c.in-Some.is c.loop-next.invariant.0 c.settle-class-next.result c.settle-class-next.ensures.value
+    next_falls (shape_sound c.args.table.now) c.args.leaf c.requires.known c.loop-next.next c.in-Some.class c.in-Some.is c.loop-next.invariant.0 c.settle_class-next.result c.settle_class-next.ensures.value
 
 pub loop-next-preserved : goal.loop-next-preserved
 loop-next-preserved g c =
     let t = c.args.table.now in
     settling_more (shape_of t) (weight_of t) c.args.done c.args.gone (shape_sound t) c.args.leaf c.requires.known _ _ _ _ c.loop-next.next c.in-Some.class c.in-Some.is c.loop-next.invariant _ _
-    c.settle-class-next.result c.settle-class-next.ensures.value (record { loads = c.settle-class-next.ensures.loads; held = c.settle-class-next.ensures.held })
+    c.settle_class-next.result c.settle_class-next.ensures.value (record { loads = c.settle_class-next.ensures.loads; held = c.settle_class-next.ensures.held })
 
 pub returns : goal.returns
 returns g c =

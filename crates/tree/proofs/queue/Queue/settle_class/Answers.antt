@@ -9,8 +9,8 @@ returns-then-self-class-gt0 g c =
     let t = c.args.table.now in
     record {
       value = c.parent-above.ensures;
-      loads = settled_busy (shape_of t) (weight_of t) c.args.done c.args.gone c.args.self.now.loads c.args.class _ c.charge-class.ensures.loads c.if-self-class-gt0.true;
-      held = c.charge-class.ensures.held;
+      loads = settled_busy (shape_of t) (weight_of t) c.args.done c.args.gone c.args.self.now.loads c.args.class _ c.charge_class.ensures.loads c.if-self-class-gt0.true;
+      held = c.charge_class.ensures.held;
     }
 
 pub rest-requires : goal.rest-requires
@@ -18,16 +18,16 @@ rest-requires g c =
     let t = c.args.table.now in
     record {
       known = c.requires.known;
-      blank = charged_blank (shape_of t) (weight_of t) c.args.done c.args.gone c.args.self.now.loads c.args.class _ c.charge-class.ensures.loads c.requires.known c.requires.blank;
+      blank = charged_blank (shape_of t) (weight_of t) c.args.done c.args.gone c.args.self.now.loads c.args.class _ c.charge_class.ensures.loads c.requires.known c.requires.blank;
     }
 
 pub returns : goal.returns
 returns g c =
     let t = c.args.table.now in
-    let none : (load c.charge-class.new.self.loads c.args.class).backlog ≡ 0 = omega (arith, c.if-self-class-gt0.false) in
+    let none : (load c.charge_class.new.self.loads c.args.class).backlog ≡ 0 = omega (arith, c.if-self-class-gt0.false) in
     record {
       value = c.parent-above.ensures;
-      loads = settled_idle (shape_of t) (weight_of t) c.args.done c.args.gone c.args.self.now.loads c.args.class _ c.charge-class.ensures.loads _ none c.rest.ensures.loads;
-      held = settled_held (shape_of t) (weight_of t) c.args.done c.args.gone c.args.self.now.loads c.args.class _ c.charge-class.ensures.loads _ none c.rest.ensures.loads
-          _ _ _ c.charge-class.ensures.held (ap g.T.TagStore.held c.rest.ensures.store);
+      loads = settled_idle (shape_of t) (weight_of t) c.args.done c.args.gone c.args.self.now.loads c.args.class _ c.charge_class.ensures.loads _ none c.rest.ensures.loads;
+      held = settled_held (shape_of t) (weight_of t) c.args.done c.args.gone c.args.self.now.loads c.args.class _ c.charge_class.ensures.loads _ none c.rest.ensures.loads
+          _ _ _ c.charge_class.ensures.held (ap g.T.TagStore.held c.rest.ensures.store);
     }

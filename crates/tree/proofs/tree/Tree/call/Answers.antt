@@ -93,14 +93,14 @@ returns-in-Ok-end g c =
     let d = called g.T.TagStore.held g.row.I-Item g.S.Server.work g.S.Server.draws t s v (Ok (Closed c.in-Ok-end.charge)) c.end.new.self c.end.new.shelf (v) c.args.call (End c.in-Open-End.grant) c.in-Open-End.is-1 (record { kept = e.kept; steps = λ _. e.steps w; lawful = λ _. e.lawful w; table = e.table; drew = refl; grant = tt; lender = e.lender; refused = tt }) in
     record { kept = d.kept; steps = d.steps; lawful = d.lawful; table = d.table; drew = d.drew; grant = d.grant; lender = d.lender; refused = d.refused }
 
-pub returns-in-Ok-give-up : goal.returns-in-Ok-give-up
-returns-in-Ok-give-up g c =
+pub returns-in-Ok-give_up : goal.returns-in-Ok-give_up
+returns-in-Ok-give_up g c =
     let t = c.args.self.now in
     let s = c.args.shelf.now in
     let v = c.args.server.now in
     let w = g.S.Server.work v in
-    let e = c.in-Ok-give-up.ensures in
-    let d = called g.T.TagStore.held g.row.I-Item g.S.Server.work g.S.Server.draws t s v (Ok (Closed c.in-Ok-give-up.charge)) c.give_up.new.self (s) (v) c.args.call (GiveUp c.in-Open-GiveUp.grant) c.in-Open-GiveUp.is-1 (record { kept = e.kept; steps = λ _. e.steps w; lawful = λ _. e.lawful w; table = e.table; drew = refl; grant = tt; lender = (refl, refl); refused = tt }) in
+    let e = c.in-Ok-give_up.ensures in
+    let d = called g.T.TagStore.held g.row.I-Item g.S.Server.work g.S.Server.draws t s v (Ok (Closed c.in-Ok-give_up.charge)) c.give_up.new.self (s) (v) c.args.call (GiveUp c.in-Open-GiveUp.grant) c.in-Open-GiveUp.is-1 (record { kept = e.kept; steps = λ _. e.steps w; lawful = λ _. e.lawful w; table = e.table; drew = refl; grant = tt; lender = (refl, refl); refused = tt }) in
     record { kept = d.kept; steps = d.steps; lawful = d.lawful; table = d.table; drew = d.drew; grant = d.grant; lender = d.lender; refused = d.refused }
 
 pub returns-in-Free-End : goal.returns-in-Free-End

@@ -18,8 +18,8 @@ settle-requires g c =
       blank = t.unused;
     }
 
-pub invariant-of-self : goal.invariant-of-self
-invariant-of-self g c =
+pub invariant_of-self : goal.invariant_of-self
+invariant_of-self g c =
     let t = c.args.self.now in
     let shape = shape_of t.table in
     let weight = weight_of t.table in

@@ -49,8 +49,8 @@ advance-requires g c =
     let some = head_counted (lanes c.args.shelf.now c.in-Some.leaf) (queued (shape_of t.table) t.queue.loads c.in-Some.leaf) c.in-Some-head.item c.in-Some-head.ensures in
     record { known = queue_known (shape_of t.table) t.queue.loads t.counted (shape_sound t.table) c.in-Some.leaf some }
 
-pub invariant-of-self : goal.invariant-of-self
-invariant-of-self g c =
+pub invariant_of-self : goal.invariant_of-self
+invariant_of-self g c =
     let t = c.args.self.now in
     let shape = shape_of t.table in
     let ls = t.queue.loads in

@@ -51,15 +51,15 @@ returns-then-cost g c =
     let step = end_mismatch g.row.I-Item t (grant_of c.args.grant) leaf c.in-Open.cost c.in-Open.done c.in-Open.is c.if-not-gave.ensures sh (inr (λ e. c.if-cost.true (c.cost.ensures ∙ sym costs ∙ e))) in
     record { kept = λ ins. ins; steps = step; lawful = λ w. onward (laws_met g.met.I.Item) _ _ _ _ (step w); table = refl; lender = (refl, refl); refused = (refl, refl, refl) }
 
-pub returns-then-not-may-stop : goal.returns-then-not-may-stop
-returns-then-not-may-stop g c =
+pub returns-then-not-may_stop : goal.returns-then-not-may_stop
+returns-then-not-may_stop g c =
     let t = c.args.self.now in
     let sh = c.args.shelf.now in
     let leaf = c.in-Open.leaf in
     let (full, head) = head_full (lanes sh leaf) (queued (shape_of t.table) t.queue.loads leaf) c.in-Some.item c.in-Some.ensures in
     let (costs, stops) = head_read g.row.I-Item c.in-Some.item (lanes sh leaf) head in
     let step = no_stop g.row.I-Item t (grant_of c.args.grant) leaf c.in-Open.cost c.in-Open.done c.in-Open.is c.if-not-gave.ensures sh full
-    (costs ∙ sym c.cost.ensures ∙ c.if-cost.false) (stops c.in-Open.done ∙ sym c.if-not-may-stop.ensures) in
+    (costs ∙ sym c.cost.ensures ∙ c.if-cost.false) (stops c.in-Open.done ∙ sym c.if-not-may_stop.ensures) in
     record { kept = λ ins. ins; steps = step; lawful = λ w. onward (laws_met g.met.I.Item) _ _ _ _ (step w); table = refl; lender = (refl, refl); refused = (refl, refl, refl) }
 
 pub returns : goal.returns
@@ -78,13 +78,13 @@ returns g c =
     let (full, head) = head_full (lanes sh leaf) (queued (shape_of t.table) t.queue.loads leaf) item c.in-Some.ensures in
     let (costs, stops) = head_read K item (lanes sh leaf) head in
     let price : K.costs item ≡ cost = sym c.cost.ensures ∙ c.if-cost.false in
-    let may : K.stops item done ≡ true = sym c.if-not-may-stop.ensures in
+    let may : K.stops item done ≡ true = sym c.if-not-may_stop.ensures in
     let within : done ≤ cost = subst (λ p. (serving p).done ≤ (serving p).cost) c.in-Open.is t.within in
     let worn : (room sh' ≡ room sh) × (lanes sh' ≡ put (lanes sh) leaf (settled K (lanes sh leaf) done)) = elim c.if-gone.branch [
       | then-gone w ↦ (ap room w.shelf-is ∙ w.remove.ensures.room, ap lanes w.shelf-is ∙ all_done K item (lanes sh) (lanes w.remove.new.self) leaf done head (w.if-gone.true ∙ sym price) w.remove.ensures.lanes)
       | else-gone w ↦
           let less : done < K.costs item = omega (arith, price, within, w.if-gone.false) in
-          (ap room w.shelf-is ∙ w.leave-rest.ensures.room, ap lanes w.shelf-is ∙ some_left K item (lanes sh) (lanes w.leave-rest.new.self) leaf done head _ less may w.leave-rest.ensures.value w.leave-rest.ensures.lanes)
+          (ap room w.shelf-is ∙ w.leave_rest.ensures.room, ap lanes w.shelf-is ∙ some_left K item (lanes sh) (lanes w.leave_rest.new.self) leaf done head _ less may w.leave_rest.ensures.value w.leave_rest.ensures.lanes)
     ] in
     let step = ends K t (grant_of c.args.grant) leaf cost done c.in-Open.is c.if-not-gave.ensures sh full (costs ∙ price) (stops done ∙ may) held u c.close.ensures sh' worn.0 worn.1 in
     let told = λ (w : ℕ). subst (λ d. Step K (state_of t sh w) (end_turn (grant_of c.args.grant)) (closed d) (state_of u sh' w)) (sym is) (step w) in
@@ -93,6 +93,6 @@ returns g c =
       steps = told;
       lawful = λ w. onward (laws_met g.met.I.Item) _ _ _ _ (told w);
       table = c.close.ensures.table;
-      lender = elim c.if-gone.branch [ then-gone w ↦ subst (Lent sh) (sym w.shelf-is) w.remove.ensures.lender | else-gone w ↦ subst (Lent sh) (sym w.shelf-is) w.leave-rest.ensures.lender ];
+      lender = elim c.if-gone.branch [ then-gone w ↦ subst (Lent sh) (sym w.shelf-is) w.remove.ensures.lender | else-gone w ↦ subst (Lent sh) (sym w.shelf-is) w.leave_rest.ensures.lender ];
       refused = tt;
     }

@@ -8,9 +8,9 @@ use Rattle.tree.specs.declared.phase.Phase.TheVariants.{Free}
 use Rattle.tree.proofs.Openings.{none_queued, none_counted, none_within, none_stocked, valid, opened}
 use Rattle.tree.proofs.tree.Tree.open.Goals as goal
 
-pub invariant-of-result : goal.invariant-of-result
-invariant-of-result g c =
-    let t = shape_of c.into-parts-house.result.1 in
+pub invariant_of-result : goal.invariant_of-result
+invariant_of-result g c =
+    let t = shape_of c.into_parts-house.result.1 in
     let ls = c.new.result.loads in
     let blank = c.new.ensures.loads in
     (none_counted t ls blank, (λ k. omega (arith, none_queued t ls blank k), (none_within t ls blank 0, (ap (λ l. l.start.0) (blank 0), (λ k _. ap (λ l. l.finish.0) (blank k), (λ e. absurd (both_ways false refl e), (omega arith, (omega arith, (omega arith, tt)))))))))
@@ -20,9 +20,9 @@ returns g c =
     let d = c.args.draft in
     let ls = c.new.result.loads in
     let blank = c.new.ensures.loads in
-    let is = c.into-parts-house.ensures.value in
+    let is = c.into_parts-house.ensures.value in
     record {
-      kept = none_stocked (shape_of c.into-parts-house.result.1) ls blank _ c.new.ensures.store;
+      kept = none_stocked (shape_of c.into_parts-house.result.1) ls blank _ c.new.ensures.store;
       valid = valid d;
       opened = λ sh w none. (λ i. state (is i).0 (shape_of (is i).1) (weight_of (is i).1) ls Free 0 0 (room sh) (lanes sh) w) ∙ opened d ls blank (room sh) w (lanes sh) none;
       house = ap (λ p. p.0) is;

@@ -5,4 +5,4 @@ use Rattle.std.proofs.lemmas.Bool.Decides.{Decides-eqb}
 pub returns : goal.returns
 returns c =
     let d = slice_eq-Decides Decides-eqb _ _ _ c.eq.ensures in
-    rw (c.as-bytes.ensures, c.as-bytes-2.ensures) at d
+    rw (c.as_bytes.ensures, c.as_bytes-2.ensures) at d

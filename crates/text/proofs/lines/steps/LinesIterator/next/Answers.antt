@@ -3,8 +3,8 @@ use Rattle.std.proofs.lemmas.List.{nil_from_length}
 use Rattle.text.proofs.Ends.{one_line, no_end, shorter}
 use Rattle.text.proofs.lines.steps.LinesIterator.next.Goals as goal
 
-pub returns-then-is-empty : goal.returns-then-is-empty
-returns-then-is-empty c = record { steps = nil_from_length c.args.self.now.rest.now (true-eqb _ 0 c.if-is-empty.ensures); goes = search rules }
+pub returns-then-is_empty : goal.returns-then-is_empty
+returns-then-is_empty c = record { steps = nil_from_length c.args.self.now.rest.now (true-eqb _ 0 c.if-is_empty.ensures); goes = search rules }
 
 pub returns-in-Some : goal.returns-in-Some
 returns-in-Some c =
@@ -13,4 +13,4 @@ returns-in-Some c =
     record { steps = one_line _ _ _ parts.0 parts.1 _ c.line.ensures; goes = search rules }
 
 pub returns-in-None : goal.returns-in-None
-returns-in-None c = record { steps = (search rules, no_end _ (omega (arith, false-eqb _ 0 c.if-is-empty.ensures)) c.in-None.ensures); goes = search rules }
+returns-in-None c = record { steps = (search rules, no_end _ (omega (arith, false-eqb _ 0 c.if-is_empty.ensures)) c.in-None.ensures); goes = search rules }
