@@ -4,4 +4,4 @@ use Rattle.rules.proofs.Calls.{accepts}
 use Rattle.rules.proofs.Lawful.{picked_chosen}
 
 pub returns : goal.returns
-returns g c = record { picks = picked_chosen g.row.I-Item; accepts = accepts g.row.I-Item }
+returns g c = record { picks = picked_chosen g.I.Item; accepts = accepts g.I.Item }

@@ -6,10 +6,10 @@ use Rattle.plans.specs.Stages.{reading}
 use Rattle.plans.proofs.Reading.{one_more, planned, told_misformed, told_refused, told_unfinished}
 use Rattle.plans.proofs.read.read.Goals as goal
 
-pub returns-in-default : goal.returns-in-default
-returns-in-default c =
+pub returns-in_default : goal.returns-in_default
+returns-in_default c =
     subst (Told _) (sym c.refused.ensures)
-    (told_misformed _ _ _ _ c.loop-rest.invariant (omega (arith, false-eqb _ 0 c.loop-rest-test.ensures)) c.in-default.ensures)
+    (told_misformed _ _ _ _ c.loop-rest.invariant (omega (arith, false-eqb _ 0 c.loop-rest-test.ensures)) c.in_default.ensures)
 
 pub returns-in-Err : goal.returns-in-Err
 returns-in-Err c =

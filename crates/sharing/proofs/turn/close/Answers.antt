@@ -9,7 +9,7 @@ use Rattle.sharing.proofs.turn.close.Goals as goal
 pub returns-in-Ok : goal.returns-in-Ok
 returns-in-Ok g c =
     let e = c.in-Ok.ensures in
-    record { kept = e.kept; closed = λ w. ends g.row.I-Item (state_of c.args.tree.now c.args.shelf.now w) (state_of c.end.new.self c.end.new.shelf w) (grant_of c.args.grant) _ (e.steps w) }
+    record { kept = e.kept; closed = λ w. ends g.I.Item (state_of c.args.tree.now c.args.shelf.now w) (state_of c.end.new.self c.end.new.shelf w) (grant_of c.args.grant) _ (e.steps w) }
 
 pub returns-in-Err : goal.returns-in-Err
 returns-in-Err g c =

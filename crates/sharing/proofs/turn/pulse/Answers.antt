@@ -10,5 +10,5 @@ returns-in-Ok g c =
     let grant = grant_of c.args.grant.now in
     record {
       kept = e.kept;
-      serving = λ sh r. keeps g.row.I-Item (state_of c.args.tree.now sh (g.S.Server.work c.args.server.now)) grant grant r _ (state_of c.pulse.new.self sh (g.S.Server.work c.pulse.new.server)) (e.steps sh);
+      serving = λ sh r. keeps g.I.Item (state_of c.args.tree.now sh (g.S.Server.work c.args.server.now)) grant grant r _ (state_of c.pulse.new.self sh (g.S.Server.work c.pulse.new.server)) (e.steps sh);
     }

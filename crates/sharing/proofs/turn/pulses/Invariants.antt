@@ -6,4 +6,4 @@ use Rattle.sharing.proofs.turn.pulses.Given as goal
 abbrev pub invariant-loop : goal.invariant-loop
 invariant-loop g l =
     (InStep g.T.TagStore.held l.initial.tree → InStep g.T.TagStore.held l.tree) ×
-    Keeps g.row.I-Item l.grant l.initial.tree (g.S.Server.work l.initial.server) l.tree (g.S.Server.work l.server)
+    Keeps g.I.Item l.grant l.initial.tree (g.S.Server.work l.initial.server) l.tree (g.S.Server.work l.server)

@@ -10,14 +10,14 @@ give_up-requires g c =
     let sh = c.args.shelf.now in
     let w = g.S.Server.work c.args.server.now in
     let grant = grant_of c.args.grant in
-    again g.row.I-Item c.pulses-left.new.tree sh grant (g.S.Server.work c.pulses-left.new.server) 0 (c.pulses-left.ensures.serving sh (again g.row.I-Item c.args.tree.now sh grant 0 w c.requires)).0
+    again g.I.Item c.pulses-left.new.tree sh grant (g.S.Server.work c.pulses-left.new.server) 0 (c.pulses-left.ensures.serving sh (again g.I.Item c.args.tree.now sh grant 0 w c.requires)).0
 
 pub close-requires : goal.close-requires
 close-requires g c =
     let sh = c.args.shelf.now in
     let w = g.S.Server.work c.args.server.now in
     let grant = grant_of c.args.grant in
-    again g.row.I-Item c.pulses-left.new.tree sh grant (g.S.Server.work c.pulses-left.new.server) 0 (c.pulses-left.ensures.serving sh (again g.row.I-Item c.args.tree.now sh grant 0 w c.requires)).0
+    again g.I.Item c.pulses-left.new.tree sh grant (g.S.Server.work c.pulses-left.new.server) 0 (c.pulses-left.ensures.serving sh (again g.I.Item c.args.tree.now sh grant 0 w c.requires)).0
 
 pub returns-then-left-gt0 : goal.returns-then-left-gt0
 returns-then-left-gt0 g c =
@@ -28,7 +28,7 @@ returns-then-left-gt0 g c =
     let e = c.give_up.ensures in
     record {
       kept = λ ins. e.kept (p.kept ins);
-      served = λ b open-since. whole b (state_of c.pulses-left.new.tree sh v) (state_of c.give_up.new.tree sh v) _ ((p.serving sh (again g.row.I-Item c.args.tree.now sh (grant_of c.args.grant) 0 w c.requires)).1 b open-since) (e.closed v) refl;
+      served = λ b open-since. whole b (state_of c.pulses-left.new.tree sh v) (state_of c.give_up.new.tree sh v) _ ((p.serving sh (again g.I.Item c.args.tree.now sh (grant_of c.args.grant) 0 w c.requires)).1 b open-since) (e.closed v) refl;
     }
 
 pub returns : goal.returns
@@ -40,5 +40,5 @@ returns g c =
     let e = c.close.ensures in
     record {
       kept = λ ins. e.kept (p.kept ins);
-      served = λ b open-since. whole b (state_of c.pulses-left.new.tree sh v) (state_of c.close.new.tree c.close.new.shelf v) _ ((p.serving sh (again g.row.I-Item c.args.tree.now sh (grant_of c.args.grant) 0 w c.requires)).1 b open-since) (e.closed v) refl;
+      served = λ b open-since. whole b (state_of c.pulses-left.new.tree sh v) (state_of c.close.new.tree c.close.new.shelf v) _ ((p.serving sh (again g.I.Item c.args.tree.now sh (grant_of c.args.grant) 0 w c.requires)).1 b open-since) (e.closed v) refl;
     }

@@ -16,7 +16,20 @@ invariant_of-self c =
     let p = c.args.parent in
     let d = c.index-self-parent.result in
     let u = after t p c.args.weight c.args.name (get_or t.classes p d) (row_read t p d c.requires.known) c.requires.room c.requires.known c.requires.shallow c.requires.fresh in
-    (u.size, (u.some, (u.few, (u.root, (u.earlier, (u.unused, (u.deep, (u.shallow, (u.first, (u.next, (u.titled, (u.apart, tt))))))))))))
+    record {
+      size = u.size;
+      some = u.some;
+      few = u.few;
+      root = u.root;
+      earlier = u.earlier;
+      unused = u.unused;
+      deep = u.deep;
+      shallow = u.shallow;
+      first = u.first;
+      next = u.next;
+      titled = u.titled;
+      apart = u.apart;
+    }
 
 pub returns : goal.returns
 returns c =

@@ -23,13 +23,14 @@ invariant_of-self c =
     let full = heap_room s g k gl kl c.requires.free in
     let p = set_sets groupOr None s.pairs k pair (let e = s.classes in omega arith) in
     let m = set_sets (λ v. v) 0 s.lens g (n + 1) (let e = s.groups in omega arith) in
-    let x = append_kept (index_of s) g k (group_known s) (ap groupOr c.requires.free) p c.write.ensures m in (
-      length-set s.pairs k pair ∙ s.classes,
-      (
-        length-set s.lens g (n + 1) ∙ s.groups,
-        (
-          kept_set None (λ _ o. fits o ≡ true) s.pairs k pair (lt-ltb g 64 gl) s.grouped,
-          (kept_set 0 (λ _ v. v ≤ 64) s.lens g (n + 1) (omega arith) s.most, (x.member, (x.placed, (x.listed, (x.found, tt))))),
-        ),
-      ),
-    )
+    let x = append_kept (index_of s) g k (group_known s) (ap groupOr c.requires.free) p c.write.ensures m in
+    record {
+      classes = length-set s.pairs k pair ∙ s.classes;
+      groups = length-set s.lens g (n + 1) ∙ s.groups;
+      grouped = kept_set None (λ _ o. fits o ≡ true) s.pairs k pair (lt-ltb g 64 gl) s.grouped;
+      most = kept_set 0 (λ _ v. v ≤ 64) s.lens g (n + 1) (omega arith) s.most;
+      member = x.member;
+      placed = x.placed;
+      listed = x.listed;
+      found = x.found;
+    }

@@ -17,13 +17,14 @@ invariant_of-self c =
     let p = set_sets groupOr None s.pairs k None (let e = s.classes in omega arith) in
     let at = subst (λ j. Sets (groupAt s.pairs) (groupAt (set s.pairs k None)) j 64) c.class_at-class.ensures.value p in
     let m = set_sets (λ v. v) 0 s.lens g n (let e = s.groups in let gl = c.requires.0 in omega arith) in
-    let x = drop_kept (index_of s) g n (let l = c.requires.1 in omega arith) at m in (
-      length-set s.pairs k None ∙ s.classes,
-      (
-        length-set s.lens g n ∙ s.groups,
-        (
-          kept_set None (λ _ o. fits o ≡ true) s.pairs k None refl s.grouped,
-          (kept_set 0 (λ _ v. v ≤ 64) s.lens g n (omega arith) s.most, (x.member, (x.placed, (x.listed, (x.found, tt))))),
-        ),
-      ),
-    )
+    let x = drop_kept (index_of s) g n (let l = c.requires.1 in omega arith) at m in
+    record {
+      classes = length-set s.pairs k None ∙ s.classes;
+      groups = length-set s.lens g n ∙ s.groups;
+      grouped = kept_set None (λ _ o. fits o ≡ true) s.pairs k None refl s.grouped;
+      most = kept_set 0 (λ _ v. v ≤ 64) s.lens g n (omega arith) s.most;
+      member = x.member;
+      placed = x.placed;
+      listed = x.listed;
+      found = x.found;
+    }

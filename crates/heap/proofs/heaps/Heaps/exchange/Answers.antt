@@ -10,4 +10,13 @@ invariant_of-self c =
     let one = subst (Write (cell s.slots.cells) _ (spot s.slots.places) _ c.args.group c.args.i) c.class_at-b.ensures.value c.write.ensures in
     let two = subst (Write (cell c.write.new.self.cells) _ (spot c.write.new.self.places) _ c.args.group c.args.j) c.class_at-a.ensures.value c.write-2.ensures in
     let x = exchange_kept (index_of s) c.args.group c.args.i c.args.j c.requires.1 c.requires.2 one two in
-    (s.classes, (s.groups, (s.grouped, (s.most, (x.member, (x.placed, (x.listed, (x.found, tt))))))))
+    record {
+      classes = s.classes;
+      groups = s.groups;
+      grouped = s.grouped;
+      most = s.most;
+      member = x.member;
+      placed = x.placed;
+      listed = x.listed;
+      found = x.found;
+    }

@@ -22,4 +22,4 @@ returns c =
     let s = c.loop-parent.self in
     let g = c.args.group in
     let inv = c.loop-parent.invariant in
-    record { ordered = rise_end (keys s g) (count s g) c.loop-parent.place inv.2 c.in-default.ensures; reordered = inv.1 }
+    record { ordered = rise_end (keys s g) (count s g) c.loop-parent.place inv.2 c.in_default.ensures; reordered = inv.1 }

@@ -12,4 +12,9 @@ invariant_of-self c =
     let row = get_or s.cells g [] in
     let rows = kept_set [] (λ h r. h < 64 → length r ≡ 64) s.cells g _ (λ l. length-set row i k ∙ s.rows g l) s.rows in
     let known = λ (h j : ℕ). kept_set [] (λ _ r. get_or r j 0 < 64) s.cells g _ (kept_set 0 (λ _ n. n < 64) row i k c.requires.2 (s.known g) j) (λ h. s.known h j) h in
-    (length-set s.cells g _ ∙ s.heaps, (rows, (length-set s.places k _ ∙ s.classes, (known, tt))))
+    record {
+      heaps = length-set s.cells g _ ∙ s.heaps;
+      rows = rows;
+      classes = length-set s.places k _ ∙ s.classes;
+      known = known;
+    }

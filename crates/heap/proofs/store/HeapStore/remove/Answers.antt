@@ -8,7 +8,7 @@ pub invariant_of-self : goal.invariant_of-self
 invariant_of-self c =
     let s = c.args.self.now in
     let r = c.settle.ensures.reordered in
-    (all_ordered s.heaps c.settle.new.self c.args.group _ c.requires.known.0 s.ordered (r.lens ∙ c.remove_at.ensures.lens) (λ h i n l. r.others h i n ∙ c.remove_at.ensures.others h i n l) c.settle.ensures.ordered, tt)
+    record { ordered = all_ordered s.heaps c.settle.new.self c.args.group _ c.requires.known.0 s.ordered (r.lens ∙ c.remove_at.ensures.lens) (λ h i n l. r.others h i n ∙ c.remove_at.ensures.others h i n l) c.settle.ensures.ordered }
 
 pub invariant_of-self-else-place-len : goal.invariant_of-self-else-place-len
 invariant_of-self-else-place-len c =
@@ -20,4 +20,4 @@ invariant_of-self-else-place-len c =
     let len = c.len.ensures in
     let past = c.if-place-len.false in
     let here = fewer_order (keys s g) (keys t g) (count t g) (count s g) c.place_of-place.result (was g) (omega arith) (omega arith) c.remove_at.ensures.keys in
-    (all_ordered s t g _ c.requires.known.0 was c.remove_at.ensures.lens c.remove_at.ensures.others here, tt)
+    record { ordered = all_ordered s t g _ c.requires.known.0 was c.remove_at.ensures.lens c.remove_at.ensures.others here }

@@ -8,7 +8,11 @@ pub invariant_of-self : goal.invariant_of-self
 invariant_of-self c =
     let s = c.args.self.now in
     let after = stored s.table s.used c.args.outage s.size s.few s.sorted (sym c.if-not-takes.ensures) in
-    (length-set _ _ _ ∙ s.size, (omega (arith, after.free), (after.sorted, tt)))
+    record {
+      size = length-set _ _ _ ∙ s.size;
+      few = omega (arith, after.free);
+      sorted = after.sorted;
+    }
 
 pub returns : goal.returns
 returns c =

@@ -24,4 +24,4 @@ loop-next-preserved g c = λ known.
     (charging_more c.args.self.now c.loop-next.self c.add_to.new.self c.args.done.0 (came (shape_of table) leaf next) class (next_new ok leaf known next class c.in-Some.is was.0).0 was.1 (c.add_to.ensures (omega (arith, below, table.few))))
 
 pub returns : goal.returns
-returns g c = λ known. walk_all (shape_sound c.args.tree.now.table) c.args.leaf known (Charged c.args.self.now c.args.done.0 c.loop-next.self) c.loop-next.next c.in-default.is (c.loop-next.invariant known)
+returns g c = λ known. walk_all (shape_sound c.args.tree.now.table) c.args.leaf known (Charged c.args.self.now c.args.done.0 c.loop-next.self) c.loop-next.next c.in_default.is (c.loop-next.invariant known)

@@ -10,13 +10,13 @@ use Rattle.play.proofs.player.Player.dispatch.Goals as goal
 pub returns-then-is_some : goal.returns-then-is_some
 returns-then-is_some g c = λ t o first es h bs f.
     let (u, is) = is_held c.args.self.now.held (sym c.if-is_some.ensures) in
-    no_dispatch g.row.I-Item g.S.Server g.I.OfCost.item g.T.TagStore.held f u is
+    no_dispatch g.I.Item g.S.Server g.I.OfCost.item g.T.TagStore.held f u is
 
 pub returns-in-Ok : goal.returns-in-Ok
 returns-in-Ok g c = λ t o first es h bs f.
     let told = c.in-Ok.ensures in
     let tree = c.dispatch.new.self in
-    granted_on g.row.I-Item g.S.Server g.I.OfCost.item g.T.TagStore.held f
+    granted_on g.I.Item g.S.Server g.I.OfCost.item g.T.TagStore.held f
     (record { tree = tree; link = c.args.self.now.link; held = Some (record { grant = c.in-Ok.dispatch.grant; class = c.in-Ok.dispatch.class }); charges = c.args.self.now.charges }) c.args.shelf.now (grant_of c.in-Ok.dispatch.grant) c.in-Ok.dispatch.class c.in-Ok.dispatch.cost c.unwrap_or.result c.unwrap_or-in-Ok.result
     (told.kept f.in_step) told.table (told.steps f.in_step (g.S.Server.work c.args.self.now.link)) refl (refl, refl) refl
     (name_is tree.table c.in-Ok.dispatch.class c.name.result c.unwrap_or.result _ c.name.ensures c.unwrap_or.ensures)
@@ -25,4 +25,4 @@ returns-in-Ok g c = λ t o first es h bs f.
 pub returns-in-Err : goal.returns-in-Err
 returns-in-Err g c = λ t o first es h bs f.
     let told = c.in-Err.ensures in
-    refused_on g.row.I-Item g.S.Server g.I.OfCost.item g.T.TagStore.held f _ _ Dispatch dispatch refl c.in-Err.refusal (told.kept f.in_step) told.table (told.steps f.in_step _) refl f.turn refl
+    refused_on g.I.Item g.S.Server g.I.OfCost.item g.T.TagStore.held f _ _ Dispatch dispatch refl c.in-Err.refusal (told.kept f.in_step) told.table (told.steps f.in_step _) refl f.turn refl

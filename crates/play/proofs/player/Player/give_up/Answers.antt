@@ -7,17 +7,17 @@ use Rattle.tree.specs.Answers.{grant_of}
 use Rattle.play.proofs.Onward.{closed_on, refused_on, own_grant, turn_back, same_held, no_give_up}
 use Rattle.play.proofs.player.Player.give_up.Goals as goal
 
-pub returns-in-default : goal.returns-in-default
-returns-in-default g c = λ t o first es h bs f.
-    let none = sym c.take.ensures.value ∙ c.in-default.is in
-    same_held g.row.I-Item g.S.Server g.I.OfCost.item g.T.TagStore.held f c.take.new.self (none ∙ sym c.take.ensures.after) GiveUp (Refused WrongGrant) (no_give_up g.row.I-Item g.S.Server g.I.OfCost.item g.T.TagStore.held f none)
+pub returns-in_default : goal.returns-in_default
+returns-in_default g c = λ t o first es h bs f.
+    let none = sym c.take.ensures.value ∙ c.in_default.is in
+    same_held g.I.Item g.S.Server g.I.OfCost.item g.T.TagStore.held f c.take.new.self (none ∙ sym c.take.ensures.after) GiveUp (Refused WrongGrant) (no_give_up g.I.Item g.S.Server g.I.OfCost.item g.T.TagStore.held f none)
 
 pub returns-in-Ok : goal.returns-in-Ok
 returns-in-Ok g c = λ t o first es h bs f.
     let told = c.in-Ok.ensures in
     let u = c.in-Some.turn in
     let some = sym c.take.ensures.value ∙ c.in-Some.is in
-    closed_on g.row.I-Item g.S.Server g.I.OfCost.item g.T.TagStore.held f u some _ _ GiveUp (give_up (grant_of u.grant)) (ap give_up (own_grant g.row.I-Item g.S.Server g.I.OfCost.item g.T.TagStore.held f u some))
+    closed_on g.I.Item g.S.Server g.I.OfCost.item g.T.TagStore.held f u some _ _ GiveUp (give_up (grant_of u.grant)) (ap give_up (own_grant g.I.Item g.S.Server g.I.OfCost.item g.T.TagStore.held f u some))
     c.in-Ok.done (told.kept f.in_step) told.table (told.steps _) (told.lawful _) refl c.take.ensures.after c.add.ensures
 
 pub returns-in-Err : goal.returns-in-Err
@@ -25,6 +25,6 @@ returns-in-Err g c = λ t o first es h bs f.
     let told = c.in-Err.ensures in
     let u = c.in-Some.turn in
     let some = sym c.take.ensures.value ∙ c.in-Some.is in
-    refused_on g.row.I-Item g.S.Server g.I.OfCost.item g.T.TagStore.held f _ _ GiveUp (give_up (grant_of u.grant)) (ap give_up (own_grant g.row.I-Item g.S.Server g.I.OfCost.item g.T.TagStore.held f u some))
+    refused_on g.I.Item g.S.Server g.I.OfCost.item g.T.TagStore.held f _ _ GiveUp (give_up (grant_of u.grant)) (ap give_up (own_grant g.I.Item g.S.Server g.I.OfCost.item g.T.TagStore.held f u some))
     c.in-Err.refusal (told.kept f.in_step) told.table (told.steps _) refl
-    (turn_back g.row.I-Item g.S.Server g.I.OfCost.item g.T.TagStore.held f u some _ c.in-Err.grant told.refused.0 refl) refl
+    (turn_back g.I.Item g.S.Server g.I.OfCost.item g.T.TagStore.held f u some _ c.in-Err.grant told.refused.0 refl) refl

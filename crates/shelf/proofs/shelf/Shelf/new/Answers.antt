@@ -13,5 +13,5 @@ returns g c =
       free = c.new.ensures.spare;
       room = c.new.ensures.size;
       lender = (refl, refl);
-      priced = λ j. subst (All (Fair g.row.I-Item.costs)) (sym (none j)) tt;
+      priced = λ j. subst (All (Fair g.I.Item.costs)) (sym (none j)) tt;
     }

@@ -10,11 +10,11 @@ use Rattle.shelf.proofs.Prices.{put_priced}
 use Rattle.shelf.proofs.Shelves.{with_table}
 use Rattle.shelf.proofs.shelf.Shelf.put.Goals as goal
 
-pub returns-in-default : goal.returns-in-default
-returns-in-default g c =
+pub returns-in_default : goal.returns-in_default
+returns-in_default g c =
     let s = c.args.self.now in
-    let same = c.in-default.ensures.after in
-    let full : length (spare s.table) ≡ 0 = no_first (spare s.table) (c.in-default.ensures.value ∙ cond-true (ltb c.args.lane 64) _ _ (lt-ltb c.args.lane 64 (omega arith))) in
+    let same = c.in_default.ensures.after in
+    let full : length (spare s.table) ≡ 0 = no_first (spare s.table) (c.in_default.ensures.value ∙ cond-true (ltb c.args.lane 64) _ _ (lt-ltb c.args.lane 64 (omega arith))) in
     let whole = with_table s c.claim.new.self _ same in
     record {
       answer = grind (arith, nat_tests, full, c.cost-cost.ensures);
@@ -23,7 +23,7 @@ returns-in-default g c =
       room = ap room whole;
       refused = λ _. whole;
       lender = (refl, refl);
-      priced = subst (Priced g.row.I-Item.costs) (sym whole);
+      priced = subst (Priced g.I.Item.costs) (sym whole);
     }
 
 pub returns : goal.returns
@@ -40,5 +40,5 @@ returns g c =
       room = h.same;
       refused = λ e. absurd (true≢false e);
       lender = (refl, drop-set-lt 256 s.places.now c.in-Some.place c.args.item (omega (arith, h.within, t.all.0)));
-      priced = λ p. put_priced g.row.I-Item.costs (lanes s) _ c.args.lane p c.args.item (omega (arith, c.cost-cost.ensures), omega (arith, c.cost-cost.ensures)) after;
+      priced = λ p. put_priced g.I.Item.costs (lanes s) _ c.args.lane p c.args.item (omega (arith, c.cost-cost.ensures), omega (arith, c.cost-cost.ensures)) after;
     }

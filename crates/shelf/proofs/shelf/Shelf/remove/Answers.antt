@@ -8,19 +8,19 @@ use Rattle.shelf.proofs.Prices.{remove_priced}
 use Rattle.shelf.proofs.Shelves.{with_table}
 use Rattle.shelf.proofs.shelf.Shelf.remove.Goals as goal
 
-pub returns-in-default : goal.returns-in-default
-returns-in-default g c =
+pub returns-in_default : goal.returns-in_default
+returns-in_default g c =
     let s = c.args.self.now in
-    let same = c.in-default.ensures.after in
+    let same = c.in_default.ensures.after in
     let whole = with_table s c.release.new.self _ same in
     record {
-      value = sym (ap first (lane_none s.places.now s.table s.fits c.args.lane c.in-default.ensures.value));
-      lanes = λ j. ap (λ u. lanes u j) whole ∙ remove_none s.places.now s.table s.fits c.args.lane c.in-default.ensures.value j;
+      value = sym (ap first (lane_none s.places.now s.table s.fits c.args.lane c.in_default.ensures.value));
+      lanes = λ j. ap (λ u. lanes u j) whole ∙ remove_none s.places.now s.table s.fits c.args.lane c.in_default.ensures.value j;
       free = ap free whole ∙ sym (add-zero _);
       room = ap room whole;
       none = λ _. whole;
       lender = (refl, refl);
-      priced = subst (Priced g.row.I-Item.costs) (sym whole);
+      priced = subst (Priced g.I.Item.costs) (sym whole);
     }
 
 pub returns : goal.returns
@@ -38,5 +38,5 @@ returns g c =
       room = h.same;
       none = λ e. absurd (true≢false e);
       lender = (refl, refl);
-      priced = λ p. remove_priced g.row.I-Item.costs (lanes s) _ c.args.lane p after;
+      priced = λ p. remove_priced g.I.Item.costs (lanes s) _ c.args.lane p after;
     }

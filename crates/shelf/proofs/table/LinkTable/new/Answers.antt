@@ -17,7 +17,13 @@ invariant_of-result c =
     let up : (k : ℕ) → k < 256 → get_or c.loop-i.next k 0 ≡ k + 1 = λ k l. c.loop-i.invariant.1 k (omega arith) in
     let few : c.min-size.result ≤ 256 = omega (arith, c.min-size.ensures) in
     let t = table c.loop-i.next c.min-size.result c.saturating_sub.result c.loop-i.invariant.0 up few c.saturating_sub.ensures in
-    (t.long, (t.all, (t.inside, (t.apart, (t.ends, tt)))))
+    record {
+      long = t.long;
+      all = t.all;
+      inside = t.inside;
+      apart = t.apart;
+      ends = t.ends;
+    }
 
 pub returns : goal.returns
 returns c =

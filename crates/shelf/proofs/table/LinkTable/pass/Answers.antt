@@ -22,7 +22,13 @@ overflow_add-self c =
 pub invariant_of-self : goal.invariant_of-self
 invariant_of-self c =
     let t = moves.after c.args.self.now c.args.from c.args.to _ _ c.requires.known c.requires.some c.pick-last.ensures c.pick-head.ensures in
-    (t.long, (t.all, (t.inside, (t.apart, (t.ends, tt)))))
+    record {
+      long = t.long;
+      all = t.all;
+      inside = t.inside;
+      apart = t.apart;
+      ends = t.ends;
+    }
 
 pub returns : goal.returns
 returns c = record {

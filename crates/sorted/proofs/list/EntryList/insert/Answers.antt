@@ -9,7 +9,10 @@ invariant_of-self c =
     let n = s.places in
     let at = c.requires.0 in
     let room = c.requires.1 in
-    (length-set _ c.args.at c.args.entry ∙ (length_part s.entries c.rotate_right.new.self c.args.at (s.len + 1) (omega arith) (omega arith) c.rotate_right.ensures.len ∙ n), (omega arith, tt))
+    record {
+      places = length-set _ c.args.at c.args.entry ∙ (length_part s.entries c.rotate_right.new.self c.args.at (s.len + 1) (omega arith) (omega arith) c.rotate_right.ensures.len ∙ n);
+      most = omega arith;
+    }
 
 pub returns : goal.returns
 returns c =

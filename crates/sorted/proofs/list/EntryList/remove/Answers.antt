@@ -8,7 +8,10 @@ invariant_of-self c =
     let n = s.places in
     let most = s.most in
     let at = c.requires in
-    (length_part s.entries c.rotate_left.new.self c.args.at s.len (omega arith) (omega arith) c.rotate_left.ensures.len ∙ n, (omega arith, tt))
+    record {
+      places = length_part s.entries c.rotate_left.new.self c.args.at s.len (omega arith) (omega arith) c.rotate_left.ensures.len ∙ n;
+      most = omega arith;
+    }
 
 pub returns : goal.returns
 returns c =

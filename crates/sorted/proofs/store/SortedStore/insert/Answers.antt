@@ -24,7 +24,12 @@ invariant_of-self c =
     let x = from_inserted r (row t.entries) n c.place-at.result new c.place-at.ensures.most c.insert.ensures.rows in
     let more = sorted_more x (sorted_of s) c.place-at.ensures c.requires.known.0 c.requires.known.1 none in
     let all = subst (Sorted (row t.entries)) (sym c.insert.ensures.len) more in
-    (all.groups, (all.classes, (all.once, (all.sorted, tt))))
+    record {
+      groups = all.groups;
+      classes = all.classes;
+      once = all.once;
+      sorted = all.sorted;
+    }
 
 pub returns : goal.returns
 returns c =

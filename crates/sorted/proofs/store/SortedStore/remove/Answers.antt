@@ -15,7 +15,12 @@ invariant_of-self c =
     let at = c.requires in
     let x = from_removed (row s.list.entries) (row t.entries) t.len c.args.at (omega arith) c.remove.ensures.rows in
     let all = sorted_less x (subst (Sorted (row s.list.entries)) (sym len) (sorted_of s)) in
-    (all.groups, (all.classes, (all.once, (all.sorted, tt))))
+    record {
+      groups = all.groups;
+      classes = all.classes;
+      once = all.once;
+      sorted = all.sorted;
+    }
 
 pub returns : goal.returns
 returns c =

@@ -5,10 +5,10 @@ use Rattle.sorted.specs.Rows.{row, heldIn}
 use Rattle.sorted.specs.Means.{held_none, held_at}
 use Rattle.sorted.proofs.store.SortedStoreTagStore.take.Goals as goal
 
-pub returns-in-default : goal.returns-in-default
-returns-in-default c =
+pub returns-in_default : goal.returns-in_default
+returns-in_default c =
     let s = c.args.self.now in
-    let none = held_none (row s.list.entries) s.list.len c.args.class c.in-default.ensures in
+    let none = held_none (row s.list.entries) s.list.len c.args.class c.in_default.ensures in
     record { answer = sym (ap tag_of none); after = with_none (heldIn (row s.list.entries) s.list.len) c.args.class none }
 
 pub returns : goal.returns

@@ -19,6 +19,6 @@ loop-node-preserved g c =
 
 pub returns : goal.returns
 returns g c = record {
-  loads = advancing_all (shape_sound c.args.table.now) c.args.leaf c.requires.known c.args.self.now.loads c.loop-node.self.loads c.loop-node.class c.loop-node.invariant.0 c.in-default.ensures;
+  loads = advancing_all (shape_sound c.args.table.now) c.args.leaf c.requires.known c.args.self.now.loads c.loop-node.self.loads c.loop-node.class c.loop-node.invariant.0 c.in_default.ensures;
   store = c.loop-node.invariant.1;
 }

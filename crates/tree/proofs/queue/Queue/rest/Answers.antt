@@ -32,6 +32,6 @@ pub returns : goal.returns
 returns g c =
     let low : c.args.node < length c.loop-next.self.loads = omega (arith, c.requires.known, c.args.table.now.few, c.loop-next.self.size) in
     record {
-      loads = clearing_all (shape_sound c.args.table.now) c.args.node _ _ c.loop-next.next c.loop-next.invariant.0 c.in-default.is _ low refl;
+      loads = clearing_all (shape_sound c.args.table.now) c.args.node _ _ c.loop-next.next c.loop-next.invariant.0 c.in_default.is _ low refl;
       store = c.loop-next.invariant.1;
     }

@@ -31,5 +31,5 @@ loop-next-preserved g c =
 pub returns : goal.returns
 returns g c =
     let t = c.args.table.now in
-    let all = settling_all (shape_of t) (weight_of t) c.args.done c.args.gone (shape_sound t) c.args.leaf c.requires.known _ _ _ _ c.loop-next.next c.in-default.is c.loop-next.invariant in
+    let all = settling_all (shape_of t) (weight_of t) c.args.done c.args.gone (shape_sound t) c.args.leaf c.requires.known _ _ _ _ c.loop-next.next c.in_default.is c.loop-next.invariant in
     record { loads = all.loads; held = all.held }

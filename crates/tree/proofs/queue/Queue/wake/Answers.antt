@@ -27,5 +27,5 @@ loop-next-preserved g c =
 
 pub returns : goal.returns
 returns g c =
-    let all = waking_all (shape_of c.args.table.now) (shape_sound c.args.table.now) c.args.leaf c.requires.known _ _ _ _ c.loop-next.next c.in-default.is c.loop-next.invariant in
+    let all = waking_all (shape_of c.args.table.now) (shape_sound c.args.table.now) c.args.leaf c.requires.known _ _ _ _ c.loop-next.next c.in_default.is c.loop-next.invariant in
     record { loads = all.loads; held = all.held }

@@ -20,7 +20,7 @@ returns-in-Ok g c =
     let v = c.args.server.now in
     let w = g.S.Server.work v in
     let e = c.in-Ok.ensures in
-    let d = called g.T.TagStore.held g.row.I-Item g.S.Server.work g.S.Server.draws t s v (Ok Accepted) c.submit.new.self c.submit.new.shelf (v) c.args.call (Submit c.in-default-Submit.class c.in-default-Submit.item) c.in-default-Submit.is-1 (record { kept = e.kept; steps = λ _. e.steps w; lawful = λ _. e.lawful w; table = e.table; drew = refl; grant = tt; lender = e.lender; refused = tt }) in
+    let d = called g.T.TagStore.held g.I.Item g.S.Server.work g.S.Server.draws t s v (Ok Accepted) c.submit.new.self c.submit.new.shelf (v) c.args.call (Submit c.in_default-Submit.class c.in_default-Submit.item) c.in_default-Submit.is-1 (record { kept = e.kept; steps = λ _. e.steps w; lawful = λ _. e.lawful w; table = e.table; drew = refl; grant = tt; lender = e.lender; refused = tt }) in
     record { kept = d.kept; steps = d.steps; lawful = d.lawful; table = d.table; drew = d.drew; grant = d.grant; lender = d.lender; refused = d.refused }
 
 pub returns-in-Err : goal.returns-in-Err
@@ -30,7 +30,7 @@ returns-in-Err g c =
     let v = c.args.server.now in
     let w = g.S.Server.work v in
     let e = c.in-Err.ensures in
-    let d = called g.T.TagStore.held g.row.I-Item g.S.Server.work g.S.Server.draws t s v (Err (c.in-Err.refusal, None)) c.submit.new.self c.submit.new.shelf (v) c.args.call (Submit c.in-default-Submit.class c.in-default-Submit.item) c.in-default-Submit.is-1 (record { kept = e.kept; steps = λ _. e.steps w; lawful = λ _. e.lawful w; table = e.table; drew = refl; grant = tt; lender = e.lender; refused = (refl, e.refused.0, e.refused.1) }) in
+    let d = called g.T.TagStore.held g.I.Item g.S.Server.work g.S.Server.draws t s v (Err (c.in-Err.refusal, None)) c.submit.new.self c.submit.new.shelf (v) c.args.call (Submit c.in_default-Submit.class c.in_default-Submit.item) c.in_default-Submit.is-1 (record { kept = e.kept; steps = λ _. e.steps w; lawful = λ _. e.lawful w; table = e.table; drew = refl; grant = tt; lender = e.lender; refused = (refl, e.refused.0, e.refused.1) }) in
     record { kept = d.kept; steps = d.steps; lawful = d.lawful; table = d.table; drew = d.drew; grant = d.grant; lender = d.lender; refused = d.refused }
 
 pub returns-in-Ok-dispatch : goal.returns-in-Ok-dispatch
@@ -40,7 +40,7 @@ returns-in-Ok-dispatch g c =
     let v = c.args.server.now in
     let w = g.S.Server.work v in
     let e = c.in-Ok-dispatch.ensures in
-    let d = called g.T.TagStore.held g.row.I-Item g.S.Server.work g.S.Server.draws t s v (Ok (Granted c.in-Ok-dispatch.dispatch)) c.dispatch.new.self (s) (v) c.args.call (Dispatch) c.in-Free-Dispatch.is-1 (record { kept = e.kept; steps = λ ins. e.steps ins w; lawful = λ ins. e.lawful ins w; table = e.table; drew = refl; grant = e.grant; lender = (refl, refl); refused = tt }) in
+    let d = called g.T.TagStore.held g.I.Item g.S.Server.work g.S.Server.draws t s v (Ok (Granted c.in-Ok-dispatch.dispatch)) c.dispatch.new.self (s) (v) c.args.call (Dispatch) c.in-Free-Dispatch.is-1 (record { kept = e.kept; steps = λ ins. e.steps ins w; lawful = λ ins. e.lawful ins w; table = e.table; drew = refl; grant = e.grant; lender = (refl, refl); refused = tt }) in
     record { kept = d.kept; steps = d.steps; lawful = d.lawful; table = d.table; drew = d.drew; grant = d.grant; lender = d.lender; refused = d.refused }
 
 pub returns-in-Err-dispatch : goal.returns-in-Err-dispatch
@@ -50,7 +50,7 @@ returns-in-Err-dispatch g c =
     let v = c.args.server.now in
     let w = g.S.Server.work v in
     let e = c.in-Err-dispatch.ensures in
-    let d = called g.T.TagStore.held g.row.I-Item g.S.Server.work g.S.Server.draws t s v (Err (c.in-Err-dispatch.refusal, None)) c.dispatch.new.self (s) (v) c.args.call (Dispatch) c.in-Free-Dispatch.is-1 (record { kept = e.kept; steps = λ ins. e.steps ins w; lawful = λ ins. e.lawful ins w; table = e.table; drew = refl; grant = tt; lender = (refl, refl); refused = (refl, e.grant, refl) }) in
+    let d = called g.T.TagStore.held g.I.Item g.S.Server.work g.S.Server.draws t s v (Err (c.in-Err-dispatch.refusal, None)) c.dispatch.new.self (s) (v) c.args.call (Dispatch) c.in-Free-Dispatch.is-1 (record { kept = e.kept; steps = λ ins. e.steps ins w; lawful = λ ins. e.lawful ins w; table = e.table; drew = refl; grant = tt; lender = (refl, refl); refused = (refl, e.grant, refl) }) in
     record { kept = d.kept; steps = d.steps; lawful = d.lawful; table = d.table; drew = d.drew; grant = d.grant; lender = d.lender; refused = d.refused }
 
 pub returns-in-Open-Dispatch : goal.returns-in-Open-Dispatch
@@ -59,8 +59,8 @@ returns-in-Open-Dispatch g c =
     let s = c.args.shelf.now in
     let v = c.args.server.now in
     let w = g.S.Server.work v in
-    let step = open_already g.row.I-Item t s (ap (λ p. is_open (turn p)) c.in-Open-Dispatch.is-0) w in
-    let d = called g.T.TagStore.held g.row.I-Item g.S.Server.work g.S.Server.draws t s v (Err (TurnOpen, None)) (t) (s) (v) c.args.call (Dispatch) c.in-Open-Dispatch.is-1 (record { kept = λ ins. ins; steps = λ _. step; lawful = λ _. onward (laws_met g.met.I.Item) _ _ _ _ step; table = refl; drew = refl; grant = tt; lender = (refl, refl); refused = (refl, refl, refl) }) in
+    let step = open_already g.I.Item t s (ap (λ p. is_open (turn p)) c.in-Open-Dispatch.is-0) w in
+    let d = called g.T.TagStore.held g.I.Item g.S.Server.work g.S.Server.draws t s v (Err (TurnOpen, None)) (t) (s) (v) c.args.call (Dispatch) c.in-Open-Dispatch.is-1 (record { kept = λ ins. ins; steps = λ _. step; lawful = λ _. onward (laws_met g.met.I.Item) _ _ _ _ step; table = refl; drew = refl; grant = tt; lender = (refl, refl); refused = (refl, refl, refl) }) in
     record { kept = d.kept; steps = d.steps; lawful = d.lawful; table = d.table; drew = d.drew; grant = d.grant; lender = d.lender; refused = d.refused }
 
 pub returns-in-Free-Pulse : goal.returns-in-Free-Pulse
@@ -70,8 +70,8 @@ returns-in-Free-Pulse g c =
     let v = c.args.server.now in
     let w = g.S.Server.work v in
     let grant = grant_of c.in-Free-Pulse.field-0-1.now in
-    let step = pulse_refused g.row.I-Item t grant (none_open g.row.I-Item t grant c.in-Free-Pulse.is-0) s w in
-    let d = called g.T.TagStore.held g.row.I-Item g.S.Server.work g.S.Server.draws t s v (Err (WrongGrant, None)) (t) (s) (v) c.args.call (Pulse c.in-Free-Pulse.field-0-1) c.in-Free-Pulse.is-1 (record { kept = λ ins. ins; steps = λ _. step; lawful = λ _. onward (laws_met g.met.I.Item) _ _ _ _ step; table = refl; drew = refl; grant = tt; lender = (refl, refl); refused = (refl, refl, refl) }) in
+    let step = pulse_refused g.I.Item t grant (none_open g.I.Item t grant c.in-Free-Pulse.is-0) s w in
+    let d = called g.T.TagStore.held g.I.Item g.S.Server.work g.S.Server.draws t s v (Err (WrongGrant, None)) (t) (s) (v) c.args.call (Pulse c.in-Free-Pulse.field-0-1) c.in-Free-Pulse.is-1 (record { kept = λ ins. ins; steps = λ _. step; lawful = λ _. onward (laws_met g.met.I.Item) _ _ _ _ step; table = refl; drew = refl; grant = tt; lender = (refl, refl); refused = (refl, refl, refl) }) in
     record { kept = d.kept; steps = d.steps; lawful = d.lawful; table = d.table; drew = d.drew; grant = d.grant; lender = d.lender; refused = d.refused }
 
 pub returns-in-Ok-pulse : goal.returns-in-Ok-pulse
@@ -80,7 +80,7 @@ returns-in-Ok-pulse g c =
     let s = c.args.shelf.now in
     let v = c.args.server.now in
     let e = c.in-Ok-pulse.ensures in
-    let d = called g.T.TagStore.held g.row.I-Item g.S.Server.work g.S.Server.draws t s v (Ok (Worked c.in-Ok-pulse.work)) c.pulse.new.self (s) c.pulse.new.server c.args.call (Pulse c.in-Open-Pulse.grant) c.in-Open-Pulse.is-1 (record { kept = e.kept; steps = λ _. e.steps s; lawful = λ _. e.lawful s; table = e.table; drew = e.drew; grant = tt; lender = (refl, refl); refused = tt }) in
+    let d = called g.T.TagStore.held g.I.Item g.S.Server.work g.S.Server.draws t s v (Ok (Worked c.in-Ok-pulse.work)) c.pulse.new.self (s) c.pulse.new.server c.args.call (Pulse c.in-Open-Pulse.grant) c.in-Open-Pulse.is-1 (record { kept = e.kept; steps = λ _. e.steps s; lawful = λ _. e.lawful s; table = e.table; drew = e.drew; grant = tt; lender = (refl, refl); refused = tt }) in
     record { kept = d.kept; steps = d.steps; lawful = d.lawful; table = d.table; drew = d.drew; grant = d.grant; lender = d.lender; refused = d.refused }
 
 pub returns-in-Ok-end : goal.returns-in-Ok-end
@@ -90,7 +90,7 @@ returns-in-Ok-end g c =
     let v = c.args.server.now in
     let w = g.S.Server.work v in
     let e = c.in-Ok-end.ensures in
-    let d = called g.T.TagStore.held g.row.I-Item g.S.Server.work g.S.Server.draws t s v (Ok (Closed c.in-Ok-end.charge)) c.end.new.self c.end.new.shelf (v) c.args.call (End c.in-Open-End.grant) c.in-Open-End.is-1 (record { kept = e.kept; steps = λ _. e.steps w; lawful = λ _. e.lawful w; table = e.table; drew = refl; grant = tt; lender = e.lender; refused = tt }) in
+    let d = called g.T.TagStore.held g.I.Item g.S.Server.work g.S.Server.draws t s v (Ok (Closed c.in-Ok-end.charge)) c.end.new.self c.end.new.shelf (v) c.args.call (End c.in-Open-End.grant) c.in-Open-End.is-1 (record { kept = e.kept; steps = λ _. e.steps w; lawful = λ _. e.lawful w; table = e.table; drew = refl; grant = tt; lender = e.lender; refused = tt }) in
     record { kept = d.kept; steps = d.steps; lawful = d.lawful; table = d.table; drew = d.drew; grant = d.grant; lender = d.lender; refused = d.refused }
 
 pub returns-in-Ok-give_up : goal.returns-in-Ok-give_up
@@ -100,7 +100,7 @@ returns-in-Ok-give_up g c =
     let v = c.args.server.now in
     let w = g.S.Server.work v in
     let e = c.in-Ok-give_up.ensures in
-    let d = called g.T.TagStore.held g.row.I-Item g.S.Server.work g.S.Server.draws t s v (Ok (Closed c.in-Ok-give_up.charge)) c.give_up.new.self (s) (v) c.args.call (GiveUp c.in-Open-GiveUp.grant) c.in-Open-GiveUp.is-1 (record { kept = e.kept; steps = λ _. e.steps w; lawful = λ _. e.lawful w; table = e.table; drew = refl; grant = tt; lender = (refl, refl); refused = tt }) in
+    let d = called g.T.TagStore.held g.I.Item g.S.Server.work g.S.Server.draws t s v (Ok (Closed c.in-Ok-give_up.charge)) c.give_up.new.self (s) (v) c.args.call (GiveUp c.in-Open-GiveUp.grant) c.in-Open-GiveUp.is-1 (record { kept = e.kept; steps = λ _. e.steps w; lawful = λ _. e.lawful w; table = e.table; drew = refl; grant = tt; lender = (refl, refl); refused = tt }) in
     record { kept = d.kept; steps = d.steps; lawful = d.lawful; table = d.table; drew = d.drew; grant = d.grant; lender = d.lender; refused = d.refused }
 
 pub returns-in-Free-End : goal.returns-in-Free-End
@@ -110,8 +110,8 @@ returns-in-Free-End g c =
     let v = c.args.server.now in
     let w = g.S.Server.work v in
     let grant = grant_of c.in-Free-End.grant in
-    let step = end_refused g.row.I-Item t grant (none_open g.row.I-Item t grant c.in-Free-End.is-0) s w in
-    let d = called g.T.TagStore.held g.row.I-Item g.S.Server.work g.S.Server.draws t s v (Err (WrongGrant, Some c.in-Free-End.grant)) (t) (s) (v) c.args.call (End c.in-Free-End.grant) c.in-Free-End.is-1 (record { kept = λ ins. ins; steps = λ _. step; lawful = λ _. onward (laws_met g.met.I.Item) _ _ _ _ step; table = refl; drew = refl; grant = tt; lender = (refl, refl); refused = (refl, refl, refl) }) in
+    let step = end_refused g.I.Item t grant (none_open g.I.Item t grant c.in-Free-End.is-0) s w in
+    let d = called g.T.TagStore.held g.I.Item g.S.Server.work g.S.Server.draws t s v (Err (WrongGrant, Some c.in-Free-End.grant)) (t) (s) (v) c.args.call (End c.in-Free-End.grant) c.in-Free-End.is-1 (record { kept = λ ins. ins; steps = λ _. step; lawful = λ _. onward (laws_met g.met.I.Item) _ _ _ _ step; table = refl; drew = refl; grant = tt; lender = (refl, refl); refused = (refl, refl, refl) }) in
     record { kept = d.kept; steps = d.steps; lawful = d.lawful; table = d.table; drew = d.drew; grant = d.grant; lender = d.lender; refused = d.refused }
 
 pub returns-in-Free-GiveUp : goal.returns-in-Free-GiveUp
@@ -121,6 +121,6 @@ returns-in-Free-GiveUp g c =
     let v = c.args.server.now in
     let w = g.S.Server.work v in
     let grant = grant_of c.in-Free-GiveUp.grant in
-    let step = give_up_refused g.row.I-Item t grant (none_open g.row.I-Item t grant c.in-Free-GiveUp.is-0) s w in
-    let d = called g.T.TagStore.held g.row.I-Item g.S.Server.work g.S.Server.draws t s v (Err (WrongGrant, Some c.in-Free-GiveUp.grant)) (t) (s) (v) c.args.call (GiveUp c.in-Free-GiveUp.grant) c.in-Free-GiveUp.is-1 (record { kept = λ ins. ins; steps = λ _. step; lawful = λ _. onward (laws_met g.met.I.Item) _ _ _ _ step; table = refl; drew = refl; grant = tt; lender = (refl, refl); refused = (refl, refl, refl) }) in
+    let step = give_up_refused g.I.Item t grant (none_open g.I.Item t grant c.in-Free-GiveUp.is-0) s w in
+    let d = called g.T.TagStore.held g.I.Item g.S.Server.work g.S.Server.draws t s v (Err (WrongGrant, Some c.in-Free-GiveUp.grant)) (t) (s) (v) c.args.call (GiveUp c.in-Free-GiveUp.grant) c.in-Free-GiveUp.is-1 (record { kept = λ ins. ins; steps = λ _. step; lawful = λ _. onward (laws_met g.met.I.Item) _ _ _ _ step; table = refl; drew = refl; grant = tt; lender = (refl, refl); refused = (refl, refl, refl) }) in
     record { kept = d.kept; steps = d.steps; lawful = d.lawful; table = d.table; drew = d.drew; grant = d.grant; lender = d.lender; refused = d.refused }

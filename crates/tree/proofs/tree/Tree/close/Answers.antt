@@ -32,22 +32,18 @@ invariant_of-self g c =
     let ok = shape_sound t.table in
     let known = queue_known shape ls t.counted ok leaf c.requires.some in
     let end = leaves shape ls leaf c.requires.some in
-    let sum : c.add-self.result.0 ≡ t.meter.0 + done = omega (arith, c.add-self.ensures, c.new.ensures, c.from.ensures) in (
-      settled_counted shape weight ls ms leaf done gone loads ok t.counted known end (λ _. c.requires.some),
-      (
-        settled_few shape weight ls ms leaf done gone loads ok t.counted known end (λ _. c.requires.some) t.few,
-        (
-          subst (λ m. Within (tags ms) (720720 * m)) (sym sum) (settled_within shape weight ls ms leaf done gone loads t.meter.0 t.tagged),
-          (
-            ap (λ p. p.0) (settled_root shape weight ls ms leaf done gone loads) ∙ t.rooted,
-            (
-              λ k past. settled_unused shape weight ls ms leaf done gone loads ok known k past (t.unused k past),
-              (λ e. absurd (both_ways false refl e), (omega arith, (omega (arith, sum, c.requires.room), (t.given, tt)))),
-            ),
-          ),
-        ),
-      ),
-    )
+    let sum : c.add-self.result.0 ≡ t.meter.0 + done = omega (arith, c.add-self.ensures, c.new.ensures, c.from.ensures) in
+    record {
+      counted = settled_counted shape weight ls ms leaf done gone loads ok t.counted known end (λ _. c.requires.some);
+      few = settled_few shape weight ls ms leaf done gone loads ok t.counted known end (λ _. c.requires.some) t.few;
+      tagged = subst (λ m. Within (tags ms) (720720 * m)) (sym sum) (settled_within shape weight ls ms leaf done gone loads t.meter.0 t.tagged);
+      rooted = ap (λ p. p.0) (settled_root shape weight ls ms leaf done gone loads) ∙ t.rooted;
+      unused = λ k past. settled_unused shape weight ls ms leaf done gone loads ok known k past (t.unused k past);
+      served = λ e. absurd (both_ways false refl e);
+      within = omega arith;
+      metered = omega (arith, sum, c.requires.room);
+      given = t.given;
+    }
 
 pub returns : goal.returns
 returns g c = record {

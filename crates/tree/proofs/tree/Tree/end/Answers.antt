@@ -16,29 +16,29 @@ use Rattle.tree.proofs.Closings.{closes_in_step, some, end_mismatch, no_stop, en
 use Rattle.tree.proofs.tree.Tree.end.Goals as goal
 use Rattle.tree.proofs.tree.Tree.end.Goals.{then-gone, else-gone}
 
-pub returns-in-default : goal.returns-in-default
-returns-in-default g c =
+pub returns-in_default : goal.returns-in_default
+returns-in_default g c =
     let t = c.args.self.now in
     let grant = grant_of c.args.grant in
-    let step = end_refused g.row.I-Item t grant (none_open g.row.I-Item t grant c.in-default.is) c.args.shelf.now in
+    let step = end_refused g.I.Item t grant (none_open g.I.Item t grant c.in_default.is) c.args.shelf.now in
     record { kept = λ ins. ins; steps = step; lawful = λ w. onward (laws_met g.met.I.Item) _ _ _ _ (step w); table = refl; lender = (refl, refl); refused = (refl, refl, refl) }
 
 pub returns-then-not-gave : goal.returns-then-not-gave
 returns-then-not-gave g c =
     let t = c.args.self.now in
     let grant = grant_of c.args.grant in
-    let step = end_refused g.row.I-Item t grant (not_own g.row.I-Item t grant c.if-not-gave.ensures) c.args.shelf.now in
+    let step = end_refused g.I.Item t grant (not_own g.I.Item t grant c.if-not-gave.ensures) c.args.shelf.now in
     record { kept = λ ins. ins; steps = step; lawful = λ w. onward (laws_met g.met.I.Item) _ _ _ _ (step w); table = refl; lender = (refl, refl); refused = (refl, refl, refl) }
 
-pub returns-in-default-head : goal.returns-in-default-head
-returns-in-default-head g c =
+pub returns-in_default-head : goal.returns-in_default-head
+returns-in_default-head g c =
     let t = c.args.self.now in
     let sh = c.args.shelf.now in
     let leaf = c.in-Open.leaf in
     let grant = grant_of c.args.grant in
-    let has = some g.row.I-Item t grant leaf c.in-Open.cost c.in-Open.done c.in-Open.is c.if-not-gave.ensures sh in
-    let off = unread (lanes sh leaf) (queued (shape_of t.table) t.queue.loads leaf) has c.in-default-head.ensures in
-    let step = end_mismatch g.row.I-Item t grant leaf c.in-Open.cost c.in-Open.done c.in-Open.is c.if-not-gave.ensures sh (inl off) in
+    let has = some g.I.Item t grant leaf c.in-Open.cost c.in-Open.done c.in-Open.is c.if-not-gave.ensures sh in
+    let off = unread (lanes sh leaf) (queued (shape_of t.table) t.queue.loads leaf) has c.in_default-head.ensures in
+    let step = end_mismatch g.I.Item t grant leaf c.in-Open.cost c.in-Open.done c.in-Open.is c.if-not-gave.ensures sh (inl off) in
     record { kept = λ ins. ins; steps = step; lawful = λ w. onward (laws_met g.met.I.Item) _ _ _ _ (step w); table = refl; lender = (refl, refl); refused = (refl, refl, refl) }
 
 pub returns-then-cost : goal.returns-then-cost
@@ -47,8 +47,8 @@ returns-then-cost g c =
     let sh = c.args.shelf.now in
     let leaf = c.in-Open.leaf in
     let (_, head) = head_full (lanes sh leaf) (queued (shape_of t.table) t.queue.loads leaf) c.in-Some.item c.in-Some.ensures in
-    let (costs, _) = head_read g.row.I-Item c.in-Some.item (lanes sh leaf) head in
-    let step = end_mismatch g.row.I-Item t (grant_of c.args.grant) leaf c.in-Open.cost c.in-Open.done c.in-Open.is c.if-not-gave.ensures sh (inr (λ e. c.if-cost.true (c.cost.ensures ∙ sym costs ∙ e))) in
+    let (costs, _) = head_read g.I.Item c.in-Some.item (lanes sh leaf) head in
+    let step = end_mismatch g.I.Item t (grant_of c.args.grant) leaf c.in-Open.cost c.in-Open.done c.in-Open.is c.if-not-gave.ensures sh (inr (λ e. c.if-cost.true (c.cost.ensures ∙ sym costs ∙ e))) in
     record { kept = λ ins. ins; steps = step; lawful = λ w. onward (laws_met g.met.I.Item) _ _ _ _ (step w); table = refl; lender = (refl, refl); refused = (refl, refl, refl) }
 
 pub returns-then-not-may_stop : goal.returns-then-not-may_stop
@@ -57,14 +57,14 @@ returns-then-not-may_stop g c =
     let sh = c.args.shelf.now in
     let leaf = c.in-Open.leaf in
     let (full, head) = head_full (lanes sh leaf) (queued (shape_of t.table) t.queue.loads leaf) c.in-Some.item c.in-Some.ensures in
-    let (costs, stops) = head_read g.row.I-Item c.in-Some.item (lanes sh leaf) head in
-    let step = no_stop g.row.I-Item t (grant_of c.args.grant) leaf c.in-Open.cost c.in-Open.done c.in-Open.is c.if-not-gave.ensures sh full
+    let (costs, stops) = head_read g.I.Item c.in-Some.item (lanes sh leaf) head in
+    let step = no_stop g.I.Item t (grant_of c.args.grant) leaf c.in-Open.cost c.in-Open.done c.in-Open.is c.if-not-gave.ensures sh full
     (costs ∙ sym c.cost.ensures ∙ c.if-cost.false) (stops c.in-Open.done ∙ sym c.if-not-may_stop.ensures) in
     record { kept = λ ins. ins; steps = step; lawful = λ w. onward (laws_met g.met.I.Item) _ _ _ _ (step w); table = refl; lender = (refl, refl); refused = (refl, refl, refl) }
 
 pub returns : goal.returns
 returns g c =
-    let K = g.row.I-Item in
+    let K = g.I.Item in
     let t = c.args.self.now in
     let u = c.close.new.self in
     let sh = c.args.shelf.now in

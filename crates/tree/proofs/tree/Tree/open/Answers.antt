@@ -13,7 +13,17 @@ invariant_of-result g c =
     let t = shape_of c.into_parts-house.result.1 in
     let ls = c.new.result.loads in
     let blank = c.new.ensures.loads in
-    (none_counted t ls blank, (λ k. omega (arith, none_queued t ls blank k), (none_within t ls blank 0, (ap (λ l. l.start.0) (blank 0), (λ k _. ap (λ l. l.finish.0) (blank k), (λ e. absurd (both_ways false refl e), (omega arith, (omega arith, (omega arith, tt)))))))))
+    record {
+      counted = none_counted t ls blank;
+      few = λ k. omega (arith, none_queued t ls blank k);
+      tagged = none_within t ls blank 0;
+      rooted = ap (λ l. l.start.0) (blank 0);
+      unused = λ k _. ap (λ l. l.finish.0) (blank k);
+      served = λ e. absurd (both_ways false refl e);
+      within = omega arith;
+      metered = omega arith;
+      given = omega arith;
+    }
 
 pub returns : goal.returns
 returns g c =

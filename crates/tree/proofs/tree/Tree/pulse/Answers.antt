@@ -13,12 +13,12 @@ use Rattle.tree.specs.declared.phase.Phase.TheVariants.{Open}
 use Rattle.tree.proofs.Grants.{at, none_open, not_own, pulse_refused, pulse_none, pulse_done}
 use Rattle.tree.proofs.tree.Tree.pulse.Goals as goal
 
-pub returns-in-default : goal.returns-in-default
-returns-in-default g c =
+pub returns-in_default : goal.returns-in_default
+returns-in_default g c =
     let t = c.args.self.now in
     let grant = grant_of c.args.grant.now in
     let w = g.S.Server.work c.args.server.now in
-    let step = pulse_refused g.row.I-Item t grant (none_open g.row.I-Item t grant c.in-default.is) in
+    let step = pulse_refused g.I.Item t grant (none_open g.I.Item t grant c.in_default.is) in
     record { kept = λ ins. ins; steps = λ sh. step sh w; lawful = λ sh. onward (laws_met g.met.I.Item) _ _ _ _ (step sh w); table = refl; drew = refl; refused = refl }
 
 pub returns-then-not-gave : goal.returns-then-not-gave
@@ -26,13 +26,13 @@ returns-then-not-gave g c =
     let t = c.args.self.now in
     let grant = grant_of c.args.grant.now in
     let w = g.S.Server.work c.args.server.now in
-    let step = pulse_refused g.row.I-Item t grant (not_own g.row.I-Item t grant c.if-not-gave.ensures) in
+    let step = pulse_refused g.I.Item t grant (not_own g.I.Item t grant c.if-not-gave.ensures) in
     record { kept = λ ins. ins; steps = λ sh. step sh w; lawful = λ sh. onward (laws_met g.met.I.Item) _ _ _ _ (step sh w); table = refl; drew = refl; refused = refl }
 
 pub returns-then-done-cost : goal.returns-then-done-cost
 returns-then-done-cost g c =
     let t = c.args.self.now in
-    let step = pulse_none g.row.I-Item t (grant_of c.args.grant.now) c.in-Open.leaf c.in-Open.cost c.in-Open.done c.in-Open.is c.if-not-gave.ensures in
+    let step = pulse_none g.I.Item t (grant_of c.args.grant.now) c.in-Open.leaf c.in-Open.cost c.in-Open.done c.in-Open.is c.if-not-gave.ensures in
     let w = g.S.Server.work c.args.server.now in
     let none : Units = record { 0 = 0 } in
     record {
@@ -57,8 +57,8 @@ returns g c =
     let is : c.new.result.0 ≡ d = c.new.ensures ∙ c.from.ensures in
     let le = g.met.S.Server.within s (cost - done) d s' c.draw-work.ensures in
     let more = g.met.S.Server.counted s (cost - done) d s' c.draw-work.ensures in
-    let step = λ (sh : Shelf g.row.I.Denot). subst (λ e. Step g.row.I-Item (state_of t sh (g.S.Server.work s)) (pulse grant) (worked e) (at g.row.I-Item t grant sh (g.S.Server.work s') (Open leaf cost (done + d)))) (sym is)
-    (pulse_done g.row.I-Item t grant leaf cost done c.in-Open.is c.if-not-gave.ensures sh (g.S.Server.work s) d (g.S.Server.work s') le more) in
+    let step = λ (sh : Shelf g.row.I.Denot). subst (λ e. Step g.I.Item (state_of t sh (g.S.Server.work s)) (pulse grant) (worked e) (at g.I.Item t grant sh (g.S.Server.work s') (Open leaf cost (done + d)))) (sym is)
+    (pulse_done g.I.Item t grant leaf cost done c.in-Open.is c.if-not-gave.ensures sh (g.S.Server.work s) d (g.S.Server.work s') le more) in
     record {
       kept = λ ins. ins;
       steps = step;
