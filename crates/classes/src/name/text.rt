@@ -71,7 +71,7 @@ impl Name {
 }
 
 impl PartialEq for Name {
-    ghost equals = { λ a b r. Decides r (text_of a ≡ text_of b) };
+    ghost eq = { λ a b. bytes_eq (text_of a) (text_of b) };
 
     ghost laws = { Keys.partial_equiv_from_equiv (first_of (Prim.search (comparing, rules), Prim.grind (arith, Self.row.coded.inj))) };
 
