@@ -1,12 +1,11 @@
 //! Making and reading names.
-ghost use Rattle.std.specs.Prelude.{◌≡◌, true, false, Some, Decides, MatchResult};
+ghost use Rattle.std.specs.Prelude.{◌≡◌, true, false, Some, MatchResult};
 ghost use Rattle.base.specs.declared.refusal.Refusal.TheVariants.{BadName};
 ghost use Rattle.std.specs.Str.{bytes_eq};
 ghost use Rattle.classes.specs.Names.{text_of};
 ghost use Rattle.classes.specs.Words.{plain, is_name};
-ghost use Rattle.std.specs.Cmp.Rules.{comparing};
-ghost use Rattle.std.proofs.Common.{rules, arith};
-ghost use Rattle.std.specs.Cmp as Keys;
+ghost use Rattle.std.specs.Cmp.{on_equiv, on_per, partial_equiv_from_equiv};
+ghost use Rattle.std.specs.Cmp.Lexicographic.{nat_list_eq_equiv};
 
 use crate::name::Name;
 use base::refusal::Refusal;
@@ -73,7 +72,7 @@ impl Name {
 impl PartialEq for Name {
     ghost eq = { λ a b. bytes_eq (text_of a) (text_of b) };
 
-    ghost laws = { Keys.partial_equiv_from_equiv (first_of (Prim.search (comparing, rules), Prim.grind (arith, Self.row.coded.inj))) };
+    ghost laws = { on_per text_of (partial_equiv_from_equiv nat_list_eq_equiv) };
 
     fn eq(&self, other: &Name) -> bool {
         self.as_bytes() == other.as_bytes()
@@ -81,7 +80,7 @@ impl PartialEq for Name {
 }
 
 impl Eq for Name {
-    ghost laws = { first_of (Prim.search (comparing, rules), Prim.grind (arith, Self.row.coded.inj)) };
+    ghost laws = { on_equiv text_of nat_list_eq_equiv };
 }
 
 impl fmt::Display for Name {

@@ -1,6 +1,6 @@
 //! What a link of a fixed rate does.
 ghost use Rattle.links.specs.Fixed.{Fixes};
-ghost use Rattle.std.proofs.Common.{rules, arith};
+ghost use Rattle.std.proofs.Common.{rules};
 
 use crate::fixed::FixedLink;
 use crate::server::{END, Server};
@@ -11,11 +11,11 @@ impl Server for FixedLink {
 
     ghost draws = { Fixes };
 
-    ghost within = { first_of (Prim.search rules, Prim.grind (arith, Self.row.coded.inj)) };
+    ghost within = { Prim.search rules };
 
-    ghost counted = { first_of (Prim.search rules, Prim.grind (arith, Self.row.coded.inj)) };
+    ghost counted = { Prim.search rules };
 
-    ghost bounded = { first_of (Prim.search rules, Prim.grind (arith, Self.row.coded.inj)) };
+    ghost bounded = { Prim.search rules };
 
     fn draw(&mut self, wanted: u32) -> u32 {
         let left = END - self.done.get();
