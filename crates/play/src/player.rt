@@ -19,7 +19,7 @@ pub(crate) struct Turn {
 /// What the events of a trace are played on, beside one shelf that goes with every event; the open turn; and what each class was charged. The
 /// open turn has to be given up in the end.
 #[derive(Drop)]
-pub(crate) struct Player<T: TagStore, I: Item, S: Server> {
+pub(crate) struct Player<T, I, S> {
     tree: Tree<T, I>,
     link: S,
     held: Option<Turn>,

@@ -11,7 +11,7 @@ pub(crate) mod walks;
 
 /// The load of each class number, and the store in which each backlogged class but the root stands under its parent.
 #[derive(Drop)]
-pub(crate) struct Queue<T: TagStore> {
+pub(crate) struct Queue<T> {
     loads: [Load; 64],
     store: T,
     ghost size: { length loads ≡ 64 },

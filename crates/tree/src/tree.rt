@@ -28,7 +28,7 @@ pub mod reading;
 /// The store of every tree holds, under each node's number, exactly its backlogged children with their start tags: opening says so, each
 /// call keeps it, and nothing else can alter a tree. No field can say it, since only the store knows what it holds.
 #[derive(Drop)]
-pub struct Tree<T: TagStore, I: Item> {
+pub struct Tree<T, I> {
     house: u32,
     table: ClassTable,
     queue: Queue<T>,
