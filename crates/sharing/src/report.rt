@@ -55,5 +55,6 @@ fn thousandths(part: u64, whole: u64) -> u64 {
 fn write_line(out: &mut String, name: &str, turns: u64, units: u64, part: u64) -> fmt::Result
     ensures { OnOk result (string_bytes out.new ≡ string_bytes out.old ++ line_text name.now turns units part) }
 {
-    writeln!(out, "{name} {turns} turns, {units} units, {part} of 1000")
+    writeln!(out, "{name} {turns} turns, {units} units, {part} of 1000")?;
+    Ok(())
 }

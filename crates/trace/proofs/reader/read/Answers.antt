@@ -25,7 +25,7 @@ pub loop-line-init : goal.loop-line-init
 loop-line-init c =
     let short = MatchResult-at_ok _ _ _ (was_ok 0 _ _ c.on_line.ensures _ c.in_ok-on_line.was) c.check_length.ensures in
     let whole = MatchResult-at_ok _ _ _ (was_ok 1 _ _ c.on_line-2.ensures _ c.in_ok-kind.was) c.title.ensures in
-    begun _ _ _ _ _ short (ap (λ s. title c.in_ok-kind.kind ++ 10 ∷ rest s) c.into_iter-line-iterator.ensures.into-iter-gives ∙ whole) c.new-reading.ensures c.new-events.ensures.items
+    begun _ _ _ _ _ short (ap (λ s. title c.in_ok-kind.kind ++ 10 ∷ rest s) c.into_iter-line-iterator.ensures.into_iter_gives ∙ whole) c.new-reading.ensures c.new-events.ensures.items
 
 pub returns-in_err-event : goal.returns-in_err-event
 returns-in_err-event c =
