@@ -53,7 +53,7 @@ impl<T: TagStore, I: Item> Tree<T, I> {
         ensures value { result ≡ (if nat_lt class self.now.table.len then Some (load self.now.queue.loads class).start else None) }
         ensures root { class ≡ 0 → result ≡ Some (record { 0 = 0 }) }
     {
-        if class as usize >= self.table.len() {
+        if class as usize >= self.len() {
             return None;
         }
         Some(self.queue.load(class).start)

@@ -5,8 +5,8 @@ use Rattle.heap.proofs.slots.Slots.new.Goals as goal
 
 pub invariant_of-result : goal.invariant_of-result
 invariant_of-result c = record {
-   heaps = refl;
-   rows = (λ g l. ap length (get_or-replicate 64 g (replicate 64 0) [] l));
-   classes = refl;
-   known = (λ g i. omega (arith, cell_filled 64 64 g i));
- }
+  heaps = refl;
+  rows = (λ g l. ap length (get_or-replicate 64 g (replicate 64 0) [] l));
+  classes = refl;
+  known = (λ g i. omega (arith, cell_filled 64 64 g i));
+}
