@@ -1,5 +1,5 @@
 -- What a player has played after one event more.
-use Rattle.std.proofs.Common.{◌≡◌, ℕ, ◌+◌, ◌<◌, ◌≤◌, Bool, true, false, cond, not, ◌||◌, eqb, List, [], ◌∷◌, ◌++◌, Some, None, Ok, codes, decimal, Option, sym, refl, ap, ◌∙◌, subst, zero-add, arith}
+use Rattle.std.proofs.Common.{◌≡◌, ℕ, ◌+◌, ◌<◌, ◌≤◌, true, cond, not, ◌||◌, eqb, List, [], ◌∷◌, ◌++◌, Some, None, Ok, codes, decimal, Option, sym, refl, ap, ◌∙◌, subst, zero-add, arith}
 use lib.Utf8.{encode}
 use Rattle.base.specs.declared.units.Parts.{Parts}
 use Rattle.base.specs.declared.units.Units.{Units}
@@ -17,7 +17,7 @@ use Rattle.listing.specs.Lines.{outcome, ended}
 use Rattle.rules.specs.Kind.{Kind}
 use Rattle.rules.specs.Laws.{Kept, Lasts}
 use Rattle.rules.specs.Shape.{under}
-use Rattle.rules.specs.State.{State, Opening, is_open}
+use Rattle.rules.specs.State.{Opening, is_open}
 use Rattle.rules.specs.Rules.{Grant, Call, Answer, refused, accepted, granted, worked, closed, dispatch, pulse, end_turn, give_up, wrong_grant, Step}
 use Rattle.rules.specs.History.{Entry, entry, Run, made, Service, turn_after, grant_after, grant_of as service-grant, done_more, serves_by, charge, charges}
 use Rattle.rules.proofs.Calls.{refuse}
@@ -25,7 +25,7 @@ use Rattle.rules.proofs.Consistent.{consistent}
 use Rattle.shelf.specs.declared.shelf.Shelf.{Shelf}
 use Rattle.tags.specs.Held.{Held}
 use Rattle.text.specs.declared.line.Event.{Event}
-use Rattle.text.specs.declared.line.Event.TheVariants.{Submit, Dispatch, Pulse, End, GiveUp}
+use Rattle.text.specs.declared.line.Event.TheVariants.{Dispatch, Pulse, End, GiveUp}
 use Rattle.tree.specs.Draws.{Drew}
 use Rattle.tree.specs.Trees.{InStep}
 use Rattle.tree.specs.declared.tree.Grant as Grants

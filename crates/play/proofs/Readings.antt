@@ -1,5 +1,5 @@
 -- What is read off a tree for a call or a line.
-use Rattle.std.proofs.Common.{◌≡◌, ℕ, ◌<◌, true, cond, eqb, ltb, List, Some, None, Option, unwrap_or, sym, refl, ap, ◌∙◌, inl, inr}
+use Rattle.std.proofs.Common.{◌≡◌, ℕ, ◌<◌, cond, eqb, ltb, List, Some, None, Option, unwrap_or, sym, refl, ap, ◌∙◌, inl, inr}
 use Rattle.std.specs.Option.{option_map}
 use Rattle.std.proofs.lemmas.Bool.{cases_eq, eq-eqb, ne_eqb, lt-ltb}
 use Rattle.base.specs.declared.units.Parts.{Parts}
@@ -7,7 +7,7 @@ use Rattle.classes.specs.declared.name.Name.{Name}
 use Rattle.classes.specs.declared.table.ClassTable.{ClassTable}
 use Rattle.classes.specs.Names.{text_of}
 use Rattle.classes.specs.Tables.{named, name_of, name_by}
-use Rattle.rules.specs.Rules.{Call, submit}
+use Rattle.rules.specs.Rules.{submit}
 use Rattle.rules.proofs.Tests.{not_some, some_same}
 use Rattle.trace.specs.Makings.{numbered}
 

@@ -1,5 +1,5 @@
 -- The lines of the charges.
-use Rattle.std.proofs.Common.{◌≡◌, ℕ, suc, ◌+◌, ◌<◌, List, [], ◌∷◌, ◌++◌, codes, decimal, sym, refl, ap, ◌∙◌, subst, append_assoc, add-one}
+use Rattle.std.proofs.Common.{◌≡◌, ℕ, ◌+◌, [], ◌∷◌, ◌++◌, codes, decimal, sym, ap, ◌∙◌, subst, append_assoc, add-one}
 use mathlib.Core.Path.{fun_ext}
 use Rattle.base.specs.declared.units.Units.{Units}
 use Rattle.classes.specs.declared.name.Name.{Name}

@@ -1,8 +1,7 @@
 -- Turns are begun, pulsed and closed. Assumes nothing.
-use Rattle.std.proofs.Common.{◌≡◌, ℕ, ◌+◌, ◌≤◌, true, Some, None, Ok, Err, Result, sym, refl, ap, ◌∙◌, subst, add-zero, arith}
+use Rattle.std.proofs.Common.{◌≡◌, ℕ, ◌+◌, ◌≤◌, true, sym, refl, ap, ◌∙◌, subst, add-zero, arith}
 use Rattle.std.proofs.lemmas.Bool.{both_ways}
 use Rattle.base.specs.declared.refusal.Refusal.{Refusal}
-use Rattle.base.specs.declared.units.Units.{Units}
 use Rattle.rules.specs.Kind.{Kind}
 use Rattle.rules.specs.Ready.{Ready, is_accepted}
 use Rattle.rules.specs.Rules as rules
@@ -10,10 +9,7 @@ use Rattle.rules.specs.Rules.{Call, submit, dispatch, pulse, end_turn, give_up, 
 use Rattle.rules.specs.State.{State, to_do, open_turn}
 use Rattle.rules.proofs.Calls.{by_step, accepts}
 use Rattle.shelf.specs.declared.shelf.Shelf.{Shelf}
-use Rattle.tree.specs.Answers.{grant_of, dispatched, pulsed, closed-by}
 use Rattle.tree.specs.Trees.{state_of}
-use Rattle.tree.specs.declared.tree.Dispatch.{Dispatch}
-use Rattle.tree.specs.declared.tree.Grant.{Grant}
 use Rattle.tree.specs.declared.tree.Tree.{Tree}
 use Rattle.sharing.specs.Turns.{Serves, Closed, Served}
 

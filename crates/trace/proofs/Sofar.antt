@@ -7,7 +7,6 @@ use Rattle.links.specs.declared.fixed.FixedLink.{FixedLink}
 use Rattle.links.specs.declared.interrupted.Interrupted.{Interrupted}
 use Rattle.links.specs.Listed.{listed}
 use Rattle.std.specs.declared.alloc.Global.{Global}
-use Rattle.std.specs.Result as results
 use Rattle.std.specs.Option.{option_to_list}
 use Rattle.std.specs.List.{AllByRecursion as All}
 use Rattle.std.proofs.lemmas.List.{length_push, flat_map_more}

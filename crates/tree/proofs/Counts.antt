@@ -1,5 +1,5 @@
 -- What the tree counts: the backlog of a class is what waits in the lanes at and below it. Assumes nothing.
-use Rattle.std.proofs.Common.{◌≡◌, ℕ, ◌+◌, ◌-◌, ◌<◌, ◌≤◌, Bool, true, false, cond, ◌&&◌, eqb, ltb, List, sym, refl, ◌∙◌, subst, inl, inr, arith}
+use Rattle.std.proofs.Common.{◌≡◌, ℕ, ◌+◌, ◌<◌, ◌≤◌, Bool, true, false, cond, ◌&&◌, eqb, ltb, List, sym, refl, ◌∙◌, subst, inl, inr, arith}
 use Rattle.std.proofs.lemmas.Bool.{cases_eq, cases_Bool, eq-eqb, ne_eqb, lt-ltb, ltb-true, and_parts, and_from, cond-true, cond-false, cond_both}
 use Rattle.rules.specs.Shape.{Shape, Sound, under, leaf}
 use Rattle.rules.specs.State.{sum, put, backlogged_by}

@@ -1,5 +1,5 @@
 -- A dispatch begins the turn, and the run closes it. Assumes nothing.
-use Rattle.std.proofs.Common.{◌≡◌, ℕ, refl, ap, subst}
+use Rattle.std.proofs.Common.{refl, ap, subst}
 use Rattle.rules.specs.Rules.{Step, dispatch, refused}
 use Rattle.tree.specs.Answers.{grant_of}
 use Rattle.tree.specs.Trees.{state_of}
