@@ -1,12 +1,12 @@
 //! How a line is written.
 ghost use Rattle.std.specs.Prelude.{Some};
-ghost use Rattle.listing.specs.Lines.{shown as line-bytes, outcome as outcome-bytes};
+ghost use Rattle.listing.specs.Lines.{shown as line_bytes, outcome as outcome_bytes};
 
 use crate::line::{Line, Outcome};
 use std::fmt;
 
 impl fmt::Display for Outcome {
-    ghost output = { λ o. Some (outcome-bytes o) };
+    ghost output = { λ o. Some (outcome_bytes o) };
 
     fn fmt<W: fmt::Write>(&self, f: &mut fmt::Formatter<W>) -> fmt::Result {
         match *self {
@@ -28,7 +28,7 @@ impl fmt::Display for Outcome {
 }
 
 impl fmt::Display for Line {
-    ghost output = { λ l. Some (line-bytes l) };
+    ghost output = { λ l. Some (line_bytes l) };
 
     fn fmt<W: fmt::Write>(&self, f: &mut fmt::Formatter<W>) -> fmt::Result {
         match *self {

@@ -2,7 +2,7 @@
 use Rattle.std.specs.Prelude.{◌≡◌, ℕ, ◌+◌, ◌<◌, List, [], ◌∷◌, ◌++◌, length, Some, None, Ok, Err, Option, Result, MatchResult}
 use Rattle.base.specs.declared.refusal.Refusal.{Refusal}
 use Rattle.base.specs.declared.refusal.Refusal.TheVariants.{BadLine}
-use Rattle.std.specs.List.{flat_map, AllByRecursion as All}
+use Rattle.std.specs.List.{flat_map, AllByRecursion}
 use Rattle.links.specs.Listed.{listed}
 use Rattle.plans.specs.declared.fault.Fault.{Fault}
 use Rattle.plans.specs.declared.fault.Wrong.{Wrong}
@@ -29,7 +29,7 @@ onward r (l ∷ ls) = onward (next r l) ls
 
 -- the bytes begin with the lines, which set up q, and go on with the rest
 pub record Begins (bs : List ℕ) (ls : List Line) (q : Reading) (rest : List ℕ) : Type 0 where
-  pub proper : All Proper ls
+  pub proper : AllByRecursion Proper ls
   pub whole : ended ls ++ rest ≡ bs
   pub stands : onward (Ok start) ls ≡ Ok q
 

@@ -1,6 +1,6 @@
 -- No work is lost or invented, and each lane holds what its history leaves waiting. Assumes nothing.
 use Rattle.std.proofs.Common.{◌≡◌, ℕ, ◌+◌, ◌<◌, ◌≤◌, Bool, true, false, cond, eqb, ◌⊎◌, List, [], ◌∷◌, ◌++◌, map, Some, sym, refl, ap, ◌∙◌, subst, inl, inr, arith}
-use Rattle.std.specs.List.{AllByRecursion as All}
+use Rattle.std.specs.List.{AllByRecursion}
 use Rattle.std.proofs.ByRecursion.{All-push}
 use Rattle.std.proofs.lemmas.List.{map_push}
 use Rattle.std.proofs.lemmas.Bool.{both_ways, cond_both, cases_eq, cases_lt, eqb-true, eq-eqb, ne_eqb}
@@ -21,7 +21,7 @@ eqb_shift c e k d s = grind (arith, nat_tests)
 
 module _ {I : Type 0} (K : Kind I) (laws : KindLaws K) where
   -- an ended turn does the same to the lane and to what waits
-  settled_ending : (ws : List (Waiting I)) (d : ℕ) → All (Unfinished K) ws → settled K (map (λ w. w.item) ws) d ≡ map (λ w. w.item) (after_ending K ws d)
+  settled_ending : (ws : List (Waiting I)) (d : ℕ) → AllByRecursion (Unfinished K) ws → settled K (map (λ w. w.item) ws) d ≡ map (λ w. w.item) (after_ending K ws d)
   settled_ending [] d a = refl
   settled_ending (w ∷ ws) d a = rw (eqb_shift (K.costs w.item) w.ended w.cost d a.0.0) (go (eqb d (K.costs w.item)))
     where
@@ -30,7 +30,7 @@ module _ {I : Type 0} (K : Kind I) (laws : KindLaws K) where
       go false = refl
 
   -- an ended turn leaves only unfinished items
-  ending_unfinished : (ws : List (Waiting I)) (d : ℕ) → may_stop K (map (λ w. w.item) ws) d ≡ true → All (Unfinished K) ws → All (Unfinished K) (after_ending K ws d)
+  ending_unfinished : (ws : List (Waiting I)) (d : ℕ) → may_stop K (map (λ w. w.item) ws) d ≡ true → AllByRecursion (Unfinished K) ws → AllByRecursion (Unfinished K) (after_ending K ws d)
   ending_unfinished [] d m a = a
   ending_unfinished (w ∷ ws) d m a = elim (cases_eq (w.ended + d) w.cost) [
     | inl last ↦ rw (eq-eqb _ _ last) a.1
@@ -52,7 +52,7 @@ module _ {I : Type 0} (K : Kind I) (laws : KindLaws K) where
       pub work : s.work ≡ o.work + charges s.shape 0 h + open_work h
       pub meter : s.meter ≡ charges s.shape 0 h
       pub lanes : (l : ℕ) → s.lane l ≡ map (λ w. w.item) (waiting K l h)
-      pub unfinished : (l : ℕ) → All (Unfinished K) (waiting K l h)
+      pub unfinished : (l : ℕ) → AllByRecursion (Unfinished K) (waiting K l h)
 
     module _ (h : List (Entry I)) (s : State I) (r : Run K o h s) (k : Balanced h s) where
       -- a closing charges the root with the work of the open turn
@@ -73,7 +73,7 @@ module _ {I : Type 0} (K : Kind I) (laws : KindLaws K) where
               | inl same ↦ rw (eq-eqb _ _ same, eq-eqb _ _ (sym same)) (ap (λ y. y ++ x ∷ []) (ap s.lane (sym same) ∙ k.lanes l) ∙ sym (map_push (λ w. w.item) (waiting K l h) new))
               | inr other ↦ rw (ne_eqb _ _ other, ne_eqb _ _ (λ e. other (sym e))) (k.lanes l)
             ];
-            unfinished = λ l. cond_both (eqb i l) (waiting K l h ++ new ∷ []) (waiting K l h) (All (Unfinished K)) (λ _. All-push (Unfinished K) (waiting K l h) new (k.unfinished l) (omega arith, omega (arith, p.low))) (λ _. k.unfinished l);
+            unfinished = λ l. cond_both (eqb i l) (waiting K l h ++ new ∷ []) (waiting K l h) (AllByRecursion (Unfinished K)) (λ _. All-push (Unfinished K) (waiting K l h) new (k.unfinished l) (omega arith, omega (arith, p.low))) (λ _. k.unfinished l);
           }
       balanced_after dispatch d p = record { work = omega (arith, k.work, ap work_of ((consistent K o r).turn ∙ ap (told s) p.free)); meter = omega (arith, k.meter); lanes = k.lanes; unfinished = k.unfinished }
       balanced_after (pulse x) d p =
@@ -89,7 +89,7 @@ module _ {I : Type 0} (K : Kind I) (laws : KindLaws K) where
               | inl same ↦ rw (eq-eqb _ _ same, eq-eqb _ _ (sym same)) (ap (λ y. settled K y u.done) (ap s.lane (sym same) ∙ k.lanes l) ∙ settled_ending (waiting K l h) u.done (k.unfinished l))
               | inr other ↦ rw (ne_eqb _ _ other, ne_eqb _ _ (λ e. other (sym e))) (k.lanes l)
             ]) ∙ ap (map (λ w. w.item)) (sym (left l));
-            unfinished = λ l. subst (All (Unfinished K)) (sym (left l)) (cond_both (eqb u.leaf l) (after_ending K (waiting K l h) u.done) (waiting K l h) (All (Unfinished K))
+            unfinished = λ l. subst (AllByRecursion (Unfinished K)) (sym (left l)) (cond_both (eqb u.leaf l) (after_ending K (waiting K l h) u.done) (waiting K l h) (AllByRecursion (Unfinished K))
                 (λ e. ending_unfinished (waiting K l h) u.done (subst (λ y. may_stop K y u.done ≡ true) (ap s.lane (eqb-true _ _ e) ∙ k.lanes l) p.stops) (k.unfinished l))
                 (λ _. k.unfinished l));
           }

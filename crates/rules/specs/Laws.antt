@@ -1,6 +1,6 @@
 -- What no history of calls breaks. Each law speaks of the moment after a history; every moment is the end of one. Assumes nothing.
 use Rattle.std.specs.Prelude.{◌≡◌, ℕ, ◌+◌, ◌*◌, ◌<◌, ◌≤◌, List, ◌∷◌, ◌++◌, map, Some, ◌≢◌}
-use Rattle.std.specs.List.{AllByRecursion as All}
+use Rattle.std.specs.List.{AllByRecursion}
 use Rattle.rules.specs.Shape.{Shape}
 use Rattle.rules.specs.Kind.{Kind}
 use Rattle.rules.specs.State.{Opening, Valid, Tags, State}
@@ -38,7 +38,7 @@ module _ {I : Type 0} (K : Kind I) where
   pub record Conserved (o : Opening) (h : List (Entry I)) (s : State I) : Type 0 where
     pub work : s.work ≡ o.work + charges o.shape 0 h + open_work h
     pub lanes : (l : ℕ) → s.lane l ≡ map (λ w. w.item) (waiting K l h)
-    pub unfinished : (l : ℕ) → All Unfinished (waiting K l h)
+    pub unfinished : (l : ℕ) → AllByRecursion Unfinished (waiting K l h)
 
 -- no start tag, finish tag or virtual time passes n
 abbrev pub Within : Tags → ℕ → Type 0

@@ -1,6 +1,6 @@
 -- What a shelf means: for each lane the list of its items, and how many places are free.
 use Rattle.std.specs.Prelude.{◌≡◌, ℕ, zero, suc, ◌+◌, ◌≤◌, Bool, cond, not, ◌&&◌, List, [], ◌∷◌, ◌++◌, length, drop, Some, None, Ok, Err, Option, Result, ◌==◌, nat_le, nat_lt}
-use Rattle.std.specs.List.{AllByRecursion as All}
+use Rattle.std.specs.List.{AllByRecursion}
 use Rattle.base.specs.declared.refusal.Refusal.{Refusal}
 use Rattle.base.specs.declared.refusal.Refusal.TheVariants.{UnknownClass, BadCost, ShelfFull}
 use Rattle.shelf.specs.Tables.{line, spare}
@@ -67,4 +67,4 @@ headed (Some y) (x ∷ xs) = y ∷ xs
 
 -- every item in a lane costs 1 to 65,535
 abbrev pub Priced : {I : Type 0} → (I → ℕ) → Shelf I → Type 0
-Priced costs s = (j : ℕ) → All (λ x. (1 ≤ costs x) × (costs x ≤ 65535)) (lanes s j)
+Priced costs s = (j : ℕ) → AllByRecursion (λ x. (1 ≤ costs x) × (costs x ≤ 65535)) (lanes s j)

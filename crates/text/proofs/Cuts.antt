@@ -4,7 +4,7 @@ use native.Mathlib.Nat.{sub-zero}
 use Rattle.std.specs.Option as options
 use Rattle.std.specs.Result as results
 use Rattle.std.specs.Result.{result_ok}
-use Rattle.std.specs.List.{AllByRecursion as All}
+use Rattle.std.specs.List.{AllByRecursion}
 use Rattle.std.proofs.ByRecursion.{All-get_or}
 use Rattle.std.proofs.lemmas.List.{take-append-drop, drop_more, take_rest, take_all}
 use Rattle.std.proofs.lemmas.Str.{IsUtf8-from_ascii}
@@ -15,8 +15,8 @@ pub found : (bs : List ℕ) (i at : ℕ) → i < length bs → get_or bs i 0 ≡
 found bs i at h e free = rw (sub-zero, take_rest) (free, sym (take-append-drop i bs) ∙ ap (λ l. take i bs ++ l) (drop_more bs i 0 h ∙ ap (λ x. x ∷ drop (i + 1) bs) e))
 
 -- what holds of each that the loop passed holds of all at its end
-pub whole : (P : ℕ → Type 0) (bs : List ℕ) (i : ℕ) → length bs ≤ i → All P (take i bs) → All P bs
-whole P bs i h all = subst (All P) (take_all i bs h) all
+pub whole : (P : ℕ → Type 0) (bs : List ℕ) (i : ℕ) → length bs ≤ i → AllByRecursion P (take i bs) → AllByRecursion P bs
+whole P bs i h all = subst (AllByRecursion P) (take_all i bs h) all
 
 pub no_word : (bs : List ℕ) (i : ℕ) → i < length bs → (Plain (get_or bs i 0) → ⊥) → Decides false (Word bs)
 no_word bs i h not = (λ e. absurd (let z : ◌≡◌ {A = ℕ} 0 1 = cc in omega arith), λ w. absurd (not (All-get_or Plain bs i 0 h w.plain)))
@@ -28,7 +28,7 @@ a_word bs w = (λ _. w, λ _. refl)
 word_utf8 : (bs : List ℕ) → Word bs → IsUtf8 bs
 word_utf8 bs w = IsUtf8-from_ascii bs (low bs w.plain)
   where
-    low : (cs : List ℕ) → All Plain cs → IsAscii cs
+    low : (cs : List ℕ) → AllByRecursion Plain cs → IsAscii cs
     low [] h i = omega arith
     low (c ∷ cs) h zero = ⊎_elim (λ q. omega (arith, q.1)) (λ q. omega (arith, q.1)) h.0
     low (c ∷ cs) h (suc i) = low cs h.1 i

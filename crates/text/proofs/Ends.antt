@@ -1,7 +1,7 @@
 -- A text cut at its line ends.
 use Rattle.std.proofs.Common.{◌≡◌, ℕ, ◌+◌, ◌<◌, ◌≤◌, List, [], ◌∷◌, ◌++◌, length, Ok, Err, Result, sym, refl, ap, ◌∙◌, subst, arith, length-append, rules}
 use Rattle.base.specs.declared.refusal.Refusal.{Refusal}
-use Rattle.std.specs.List.{AllByRecursion as All}
+use Rattle.std.specs.List.{AllByRecursion}
 use Rattle.std.proofs.ByRecursion.{All-append}
 use Rattle.text.specs.declared.kind.Kind.{Kind}
 use Rattle.text.specs.declared.kind.Kind.TheVariants.{Quantum, Block}
@@ -30,7 +30,7 @@ pub shorter : (rest bytes more : List ℕ) → rest ≡ bytes ++ 10 ∷ more →
 shorter rest bytes more cut = omega (arith, ap length cut ∙ length-append bytes (10 ∷ more))
 
 -- no line holds a line end
-spaced_free : (ws : List (List ℕ)) → All (Free 10) ws → Free 10 (spaced ws)
+spaced_free : (ws : List (List ℕ)) → AllByRecursion (Free 10) ws → Free 10 (spaced ws)
 spaced_free [] h = tt
 spaced_free (w ∷ []) h = h.0
 spaced_free (w ∷ v ∷ ws) h = All-append _ w (32 ∷ spaced (v ∷ ws)) h.0 ((λ e. omega arith), spaced_free (v ∷ ws) h.1)

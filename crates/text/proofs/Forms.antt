@@ -1,6 +1,6 @@
 -- Which line some words are, and that no other is.
 use Rattle.std.proofs.Common.{◌≡◌, ℕ, ◌+◌, ◌<◌, cond, eqb, List, [], ◌∷◌, ◌++◌, length, get_or, sym, refl, ap, ◌∙◌, ⊎_elim, append-nil, arith, length-append}
-use Rattle.std.specs.List.{AllByRecursion as All}
+use Rattle.std.specs.List.{AllByRecursion}
 use Rattle.std.proofs.lemmas.Fmt.{digits_decimal}
 use Rattle.std.proofs.ByRecursion.{All-weaker, All-from_get_or}
 use Rattle.std.proofs.lemmas.List.{nil_from_length}
@@ -34,7 +34,7 @@ module _ (b : ℕ) (low : b < 48) where
   numeral_free : (n : ℕ) → Small n → Free b (numeral n)
   numeral_free n s = All-from_get_or (λ c. c ≡ b → ⊥) (numeral n) 0 (λ i h e. omega (arith, (digit_at (numeral n) i (digits_decimal own n (omega arith)) h).0))
 
-  pub words_free : (l : Line) → Proper l → All (Free b) (fields l)
+  pub words_free : (l : Line) → Proper l → AllByRecursion (Free b) (fields l)
   words_free (Class n p w) h = (word_free _ h.0, (word_free _ h.1, (numeral_free w h.2, tt)))
   words_free (Link r) h = (numeral_free r h, tt)
   words_free (Outage o k) h = (numeral_free o h.0, (numeral_free k h.1, tt))

@@ -1,6 +1,6 @@
 -- Bytes cut at single spaces, and put together again.
 use Rattle.std.proofs.Common.{◌≡◌, ℕ, Bool, true, false, cond, eqb, List, [], ◌∷◌, ◌++◌, sym, refl, ap, ◌∙◌, ⊎_elim, arith, true-eqb}
-use Rattle.std.specs.List.{AllByRecursion as All}
+use Rattle.std.specs.List.{AllByRecursion}
 use Rattle.std.proofs.lemmas.Bool.Decides.{eqb_tells}
 use Rattle.text.specs.Words.{Free}
 use Rattle.text.specs.Lines.{spaced}
@@ -17,7 +17,7 @@ pub splits_cut : (xs bs : List ℕ) → Free 32 xs → splits (xs ++ 32 ∷ bs) 
 splits_cut [] bs h = refl
 splits_cut (a ∷ xs) bs h = rw (not_32 a h.0, splits_cut xs bs h.1) refl
 
-pub splits_spaced : (w : List ℕ) (ws : List (List ℕ)) → All (Free 32) (w ∷ ws) → splits (spaced (w ∷ ws)) ≡ w ∷ ws
+pub splits_spaced : (w : List ℕ) (ws : List (List ℕ)) → AllByRecursion (Free 32) (w ∷ ws) → splits (spaced (w ∷ ws)) ≡ w ∷ ws
 splits_spaced w [] h = splits_free w h.0
 splits_spaced w (v ∷ ws) h = splits_cut w (spaced (v ∷ ws)) h.0 ∙ ap (λ l. w ∷ l) (splits_spaced v ws h.1)
 

@@ -4,7 +4,7 @@ use Rattle.base.specs.declared.refusal.Refusal.{Refusal}
 use Rattle.base.specs.declared.refusal.Refusal.TheVariants.{OutOfPlace}
 use Rattle.classes.specs.declared.draft.Draft.{Draft}
 use Rattle.std.specs.Option.{option_to_list}
-use Rattle.std.specs.List.{AllByRecursion as All}
+use Rattle.std.specs.List.{AllByRecursion}
 use Rattle.std.proofs.lemmas.List.{length-map, map-append}
 use Rattle.text.specs.declared.kind.Kind.{Kind}
 use Rattle.text.specs.declared.line.Line.{Line}
@@ -58,7 +58,7 @@ module _ {X : Type 0} (f : Line → Option X) (kept : (l : Line) → f l ≡ f (
   named_same ls ms e = named_said ls ∙ ap (named_by f) e ∙ sym (named_said ms)
 
 -- .. and stand in the same order
-after_same : (l m : Line) → said l ≡ said m → (ls ms : List Line) → map said ls ≡ map said ms → All (After l) ls → All (After m) ms
+after_same : (l m : Line) → said l ≡ said m → (ls ms : List Line) → map said ls ≡ map said ms → AllByRecursion (After l) ls → AllByRecursion (After m) ms
 after_same l m e [] [] f h = tt
 after_same l m e [] (y ∷ ms) f h = absurd (omega (arith, ap length f))
 after_same l m e (x ∷ ls) [] f h = absurd (omega (arith, ap length f))

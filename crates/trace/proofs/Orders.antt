@@ -1,6 +1,6 @@
 -- The latest part, and which lines may follow.
 use Rattle.std.proofs.Common.{◌≡◌, ℕ, ◌<◌, ◌≤◌, Bool, true, false, not, ◌&&◌, ◌||◌, eqb, ltb, ◌⊎◌, List, [], ◌∷◌, ◌++◌, refl, ⊎_elim, arith}
-use Rattle.std.specs.List.{AllByRecursion as All}
+use Rattle.std.specs.List.{AllByRecursion}
 use Rattle.std.proofs.ByRecursion.{All-weaker, All-push}
 use Rattle.std.proofs.lemmas.Bool.Decides.{nat_tests}
 use Rattle.text.specs.declared.line.Line.{Line}
@@ -26,21 +26,21 @@ behind : (p q : ℕ) → may p q ≡ false → (p < q) ⊎ ((p ≡ 1) × (q ≡ 
 unfolding may
 behind p q h = grind (arith, nat_tests)
 
-all_last : (P : Line → Type 0) (ls : List Line) (l : Line) → All P (ls ++ l ∷ []) → P l
+all_last : (P : Line → Type 0) (ls : List Line) (l : Line) → AllByRecursion P (ls ++ l ∷ []) → P l
 all_last P [] l h = h.0
 all_last P (m ∷ ls) l h = all_last P ls l h.1
 
 -- p is the part of the last of the lines, and none is of a later one
 pub record Ordered (p : Part) (ls : List Line) : Type 0 where
-  pub top : All (λ m. place (part m) ≤ place p) ls
-  pub reached : All (λ m. place (part m) < place p) ls → place p ≡ 0
+  pub top : AllByRecursion (λ m. place (part m) ≤ place p) ls
+  pub reached : AllByRecursion (λ m. place (part m) < place p) ls → place p ≡ 0
 
 pub ordered_none : Ordered Classes []
 ordered_none = record { top = tt; reached = λ _. refl }
 
 module _ (p : Part) (ls : List Line) (old : Ordered p ls) (l : Line) where
   -- a line that may follow the latest may follow all
-  pub next : may_follow (part l) p ≡ true → All (After l) ls
+  pub next : may_follow (part l) p ≡ true → AllByRecursion (After l) ls
   unfolding may
   next h = All-weaker (λ m. place (part m) ≤ place p) (After l) (λ m low. climbs (place (part l)) (place p) (place (part m)) h low) ls old.top
 
@@ -52,7 +52,7 @@ module _ (p : Part) (ls : List Line) (old : Ordered p ls) (l : Line) where
   }
 
   -- any other may not
-  pub late : may_follow (part l) p ≡ false → All (After l) ls → ⊥
+  pub late : may_follow (part l) p ≡ false → AllByRecursion (After l) ls → ⊥
   unfolding may
   late h after =
       let below : (m : Line) → After l m → place (part m) < place p = λ m a.

@@ -8,7 +8,7 @@ use Rattle.links.specs.declared.interrupted.Interrupted.{Interrupted}
 use Rattle.links.specs.Listed.{listed}
 use Rattle.std.specs.declared.alloc.Global.{Global}
 use Rattle.std.specs.Option.{option_to_list}
-use Rattle.std.specs.List.{AllByRecursion as All}
+use Rattle.std.specs.List.{AllByRecursion}
 use Rattle.std.proofs.lemmas.List.{length_push, flat_map_more}
 use Rattle.std.proofs.lemmas.Result.{MatchResult-at_ok, MatchResult-at_err}
 use Rattle.text.specs.declared.kind.Kind.{Kind}
@@ -44,7 +44,7 @@ abbrev pub Rated : List Line → Option FixedLink → Type 0
 Rated ls x = MatchOption x (named_by rate_of ls ≡ []) (λ y. (named_by rate_of ls ≡ y.rate ∷ []) × (y.done.0 ≡ 0))
 
 -- before a link line stand classes only
-no_rates : (r : ℕ) (ls : List Line) → All (After (Link r)) ls → named_by rate_of ls ≡ []
+no_rates : (r : ℕ) (ls : List Line) → AllByRecursion (After (Link r)) ls → named_by rate_of ls ≡ []
 no_rates r [] h = refl
 no_rates r (Class n p w ∷ ls) h = no_rates r ls h.1
 no_rates r (Link q ∷ ls) h = absurd (let z : ◌≡◌ {A = ℕ} 0 1 = cc h.0 in omega arith)
@@ -56,11 +56,11 @@ rated_same ls l x y none same old =
     let e : named_by rate_of (ls ++ l ∷ []) ≡ named_by rate_of ls = named_more rate_of ls l ∙ ap (λ o. named_by rate_of ls ++ option_to_list o) none ∙ append-nil _ in
     subst (Rated (ls ++ l ∷ [])) (sym same) (subst (λ rs. MatchOption x (rs ≡ []) (λ y. (rs ≡ y.rate ∷ []) × (y.done.0 ≡ 0))) (sym e) old)
 
-rated_set : (r : ℕ) (ls : List Line) (y : Option FixedLink) → All (After (Link r)) ls → Rates None (Link r) y → Rated (ls ++ Link r ∷ []) y
+rated_set : (r : ℕ) (ls : List Line) (y : Option FixedLink) → AllByRecursion (After (Link r)) ls → Rates None (Link r) y → Rated (ls ++ Link r ∷ []) y
 rated_set r ls None after h = absurd h
 rated_set r ls (Some x) after h = (named_more rate_of ls (Link r) ∙ ap (λ rs. rs ++ r ∷ []) (no_rates r ls after) ∙ ap (λ q. q ∷ []) (sym h.0), h.1)
 
-rated_more : (ls : List Line) (l : Line) (x y : Option FixedLink) → All (After l) ls → Rated ls x → Rates x l y → Rated (ls ++ l ∷ []) y
+rated_more : (ls : List Line) (l : Line) (x y : Option FixedLink) → AllByRecursion (After l) ls → Rated ls x → Rates x l y → Rated (ls ++ l ∷ []) y
 rated_more ls (Class n p w) x y after old h = rated_same ls (Class n p w) x y refl h old
 rated_more ls (Link r) x y after old h = rated_set r ls y after h
 rated_more ls (Outage o k) x y after old h = rated_same ls (Outage o k) x y refl h old

@@ -6,7 +6,7 @@ use Rattle.classes.specs.declared.draft.Draft.{Draft}
 use Rattle.links.specs.declared.fixed.FixedLink.{FixedLink}
 use Rattle.links.specs.declared.interrupted.Interrupted.{Interrupted}
 use Rattle.links.specs.Listed.{listed}
-use Rattle.std.specs.List.{AllByRecursion as All}
+use Rattle.std.specs.List.{AllByRecursion}
 use Rattle.text.specs.declared.kind.Kind.{Kind}
 use Rattle.text.specs.declared.line.Line.{Line}
 use Rattle.text.specs.Kinds.{title, Untitled}
@@ -27,7 +27,7 @@ After l m = may_follow (part l) (part m) ≡ true
 -- a line stands rightly behind others, which made the draft c: it has a right form, is in its part, and is not refused
 pub record Fine (before : List Line) (c : Draft) (l : Line) : Type 0 where
   pub form : Proper l
-  pub order : All (After l) before
+  pub order : AllByRecursion (After l) before
   pub taken : refusal c.table (named_by outage_of before) l ≡ None
 
 -- lines behind others stand rightly one after the other, and lead from the draft c to d
@@ -47,8 +47,8 @@ pub record Right (bs : List ℕ) (k : Kind) (ls : List Line) (rest : List ℕ) (
 -- what the tree or the link says
 pub data Wrong (ls : List Line) (d : Draft) (rest : List ℕ) : Refusal → Type 0 where
   misformed : Faulty rest → Wrong ls d rest BadLine
-  misplaced : (l : Line) (more : List ℕ) → rest ≡ written l ++ 10 ∷ more → Proper l → (All (After l) ls → ⊥) → Wrong ls d rest OutOfPlace
-  refused : (l : Line) (more : List ℕ) (e : Refusal) → rest ≡ written l ++ 10 ∷ more → Proper l → All (After l) ls → refusal d.table (named_by outage_of ls) l ≡ Some e → Wrong ls d rest e
+  misplaced : (l : Line) (more : List ℕ) → rest ≡ written l ++ 10 ∷ more → Proper l → (AllByRecursion (After l) ls → ⊥) → Wrong ls d rest OutOfPlace
+  refused : (l : Line) (more : List ℕ) (e : Refusal) → rest ≡ written l ++ 10 ∷ more → Proper l → AllByRecursion (After l) ls → refusal d.table (named_by outage_of ls) l ≡ Some e → Wrong ls d rest e
 
 -- the first fault of a text. The line after the first and ls is number length ls + 2. A missing rate is told last, at the
 -- last line

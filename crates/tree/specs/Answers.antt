@@ -17,11 +17,11 @@ submitted (Ok u) = accepted
 submitted (Err e) = refused e
 
 -- a dispatch
-abbrev pub granted-by : Dispatch → Answer
-granted-by d = granted (grant_of d.grant) d.class d.cost
+abbrev pub granted_by : Dispatch → Answer
+granted_by d = granted (grant_of d.grant) d.class d.cost
 
 abbrev pub dispatched : Result Dispatch Refusal → Answer
-dispatched (Ok d) = granted-by d
+dispatched (Ok d) = granted_by d
 dispatched (Err e) = refused e
 
 -- a pulse
@@ -30,6 +30,6 @@ pulsed (Ok d) = worked d.0
 pulsed (Err e) = refused e
 
 -- an ending or a giving up
-abbrev pub closed-by : Result Units (Refusal × Grant) → Answer
-closed-by (Ok d) = closed d.0
-closed-by (Err e) = refused e.0
+abbrev pub closed_by : Result Units (Refusal × Grant) → Answer
+closed_by (Ok d) = closed d.0
+closed_by (Err e) = refused e.0

@@ -3,7 +3,7 @@ use Rattle.std.specs.Prelude.{◌≡◌, ℕ, ◌+◌, false, Some, None, Ok, Er
 use Rattle.base.specs.declared.refusal.Refusal.{Refusal}
 use Rattle.rules.specs.Rules.{submit, dispatch, pulse, end_turn, give_up, refused, accepted, worked, closed}
 use Rattle.rules.specs.Rules as rules
-use Rattle.tree.specs.Answers.{grant_of, granted-by}
+use Rattle.tree.specs.Answers.{grant_of, granted_by}
 use Rattle.tree.specs.Draws.{Drew}
 use Rattle.tree.specs.declared.phase.Phase.{Phase}
 use Rattle.tree.specs.declared.tree.Grant.{Grant}
@@ -33,7 +33,7 @@ module _ {I : Type 0} where
 -- an answer
 abbrev pub answered : Answer → rules.Answer
 answered Accepted = accepted
-answered (Granted d) = granted-by d
+answered (Granted d) = granted_by d
 answered (Worked d) = worked d.0
 answered (Closed d) = closed d.0
 

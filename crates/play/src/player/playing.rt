@@ -2,7 +2,7 @@
 ghost use Rattle.std.specs.Prelude.{◌≡◌};
 ghost use Rattle.listing.specs.Listings.{Gains};
 ghost use Rattle.play.specs.Charges.{charged_at};
-ghost use Rattle.play.specs.Lines.{letter as letter-of};
+ghost use Rattle.play.specs.Lines.{letter as letter_of};
 ghost use Rattle.play.specs.Listings.{sums};
 ghost use Rattle.play.specs.Players.{PlaysAll, Finishes};
 
@@ -18,7 +18,7 @@ use text::line::Event;
 
 /// The letter of an event.
 fn letter(event: Event<'_>) -> char
-    ensures { result ≡ letter-of event.entry }
+    ensures { result ≡ letter_of event.entry }
 {
     match event {
         Event::Submit { .. } => 'a',

@@ -4,7 +4,7 @@ ghost use Rattle.classes.specs.Tables.{shape_of};
 ghost use Rattle.rules.specs.Laws.{Lasts};
 ghost use Rattle.rules.specs.Rules.{Step, end_turn, give_up};
 ghost use Rattle.shelf.specs.Lanes.{Lent};
-ghost use Rattle.tree.specs.Answers.{grant_of, closed-by};
+ghost use Rattle.tree.specs.Answers.{grant_of, closed_by};
 ghost use Rattle.tree.specs.Closings.{Closes};
 ghost use Rattle.tree.specs.Counts.{queued};
 ghost use Rattle.tree.specs.Trees.{state_of, InStep};
@@ -22,8 +22,8 @@ impl<T: TagStore, I: Item> Tree<T, I> {
     /// otherwise what is left takes its place.
     pub fn end(&mut self, grant: Grant, shelf: &mut Shelf<'_, I>) -> Result<Units, (Refusal, Grant)>
         ensures kept { InStep T.TagStore.held self.old → InStep T.TagStore.held self.new }
-        ensures steps { (w : ℕ) → Step I.Item (state_of self.old shelf.old w) (end_turn (grant_of grant)) (closed-by result) (state_of self.new shelf.new w) }
-        ensures lawful { (w : ℕ) → Lasts I.Item (state_of self.old shelf.old w) (end_turn (grant_of grant)) (closed-by result) (state_of self.new shelf.new w) }
+        ensures steps { (w : ℕ) → Step I.Item (state_of self.old shelf.old w) (end_turn (grant_of grant)) (closed_by result) (state_of self.new shelf.new w) }
+        ensures lawful { (w : ℕ) → Lasts I.Item (state_of self.old shelf.old w) (end_turn (grant_of grant)) (closed_by result) (state_of self.new shelf.new w) }
         ensures table { self.new.table ≡ self.old.table }
         ensures lender { Lent shelf.old shelf.new }
         ensures refused { IfErr result (λ e. (e.1 ≡ grant) × (self.new ≡ self.old) × (shelf.new ≡ shelf.old)) }
@@ -58,8 +58,8 @@ impl<T: TagStore, I: Item> Tree<T, I> {
     /// Closes the open turn at any point, and answers the charge. The item stays as it was at dispatch.
     pub fn give_up(&mut self, grant: Grant, shelf: &Shelf<'_, I>) -> Result<Units, (Refusal, Grant)>
         ensures kept { InStep T.TagStore.held self.old → InStep T.TagStore.held self.new }
-        ensures steps { (w : ℕ) → Step I.Item (state_of self.old shelf.now w) (give_up (grant_of grant)) (closed-by result) (state_of self.new shelf.now w) }
-        ensures lawful { (w : ℕ) → Lasts I.Item (state_of self.old shelf.now w) (give_up (grant_of grant)) (closed-by result) (state_of self.new shelf.now w) }
+        ensures steps { (w : ℕ) → Step I.Item (state_of self.old shelf.now w) (give_up (grant_of grant)) (closed_by result) (state_of self.new shelf.now w) }
+        ensures lawful { (w : ℕ) → Lasts I.Item (state_of self.old shelf.now w) (give_up (grant_of grant)) (closed_by result) (state_of self.new shelf.now w) }
         ensures table { self.new.table ≡ self.old.table }
         ensures refused { IfErr result (λ e. (e.1 ≡ grant) × (self.new ≡ self.old)) }
     {

@@ -1,5 +1,5 @@
 use Rattle.std.proofs.Common.{◌≡◌, ℕ, [], sym, refl, ap, subst}
-use Rattle.std.specs.List.{AllByRecursion as All}
+use Rattle.std.specs.List.{AllByRecursion}
 use Rattle.shelf.specs.Lanes.{items}
 use Rattle.shelf.specs.Tables.{line}
 use Rattle.shelf.proofs.Prices.{Fair}
@@ -13,5 +13,5 @@ returns g c =
       free = c.new.ensures.spare;
       room = c.new.ensures.size;
       lender = (refl, refl);
-      priced = λ j. subst (All (Fair g.I.Item.costs)) (sym (none j)) tt;
+      priced = λ j. subst (AllByRecursion (Fair g.I.Item.costs)) (sym (none j)) tt;
     }
