@@ -4,7 +4,7 @@
 usage: python3 tools/respell.py      at the top of the repository, once, after /opt/rattle/port/port.py
 
 A word that a file of specs/ or proofs/ declares is written in snake case, a type in camel case: `end-turn` becomes `end_turn`,
-`Held-turn` becomes `HeldTurn`. It is turned wherever it stands: in specs/, in proofs/, in clauses of src/ and in the edits of
+`leastOf` becomes `least_of`, `Held-turn` becomes `HeldTurn`. It is turned wherever it stands: in specs/, in proofs/, in clauses of src/ and in the edits of
 must-fail/. Functions of src/, names that Rattle makes for a function's goals, strings, inputs and outputs keep theirs. A word that was
 quoted in a clause only for its dash or underscore loses the quotes.
 """
@@ -16,7 +16,7 @@ import sys
 WORD = re.compile(r"[\w'⊎◌]+(?:-[\w'⊎◌]+)*")
 DECLARED = re.compile(r"\s*(?:(?:abbrev|unfoldable|pub|record|data|ruleset) )*([^\s:(){}]+)(?:\s+[({].*?[)}])*\s*:\s")
 ANSWERS = ("Answers.antt", "Choices.antt", "Invariants.antt", "Proof.antt")
-TYPES = {"Held-turn": "HeldTurn", "Plays-on": "PlaysOn", "Plays-all": "PlaysAll"}
+OTHERS = {"getD_filled": "get_or_filled", "Held-turn": "HeldTurn", "Plays-on": "PlaysOn", "Plays-all": "PlaysAll"}
 
 
 def files(*endings):
@@ -32,16 +32,23 @@ def read(path):
         return f.read()
 
 
+def snake(word):
+    return re.sub(r"(?<=[a-z])[A-Z](?=[a-z])", lambda m: "_" + m.group(0).lower(), word.replace("-", "_"))
+
+
 def declared():
-    """The words with a dash that the repository declares, each with its new spelling."""
+    """The words with a dash or a capital inside that the repository declares, each with its new spelling."""
     words = {}
     for path in files(".antt"):
         if "/proofs/" in path and path.endswith(ANSWERS):
             continue
         for line in read(path).splitlines():
             m = DECLARED.match(line)
-            if m and "-" in m.group(1) and WORD.fullmatch(m.group(1)):
-                words[m.group(1)] = TYPES.get(m.group(1), m.group(1).replace("-", "_"))
+            if not m or not WORD.fullmatch(m.group(1)):
+                continue
+            new = OTHERS.get(m.group(1)) or (snake(m.group(1)) if m.group(1)[0].islower() else m.group(1))
+            if new != m.group(1):
+                words[m.group(1)] = new
     return words
 
 

@@ -4,7 +4,7 @@ use Rattle.std.proofs.lemmas.List.{get_or-set_same, get_or-set_other, get_or_pas
 use Rattle.std.proofs.lemmas.Bool.{cases_eq, cases_lt}
 use Rattle.tags.proofs.Room.{room}
 use Rattle.heap.specs.declared.heaps.Heaps.{Heaps}
-use Rattle.heap.specs.Index.{pair_at, groupOr, groupAt, size}
+use Rattle.heap.specs.Index.{pair_at, group_or, group_at, size}
 use Rattle.heap.specs.Keys.{count, keys, Reordered}
 use Rattle.heap.specs.Order.{Ordered}
 use Rattle.heap.specs.Slots.{cell, spot}
@@ -19,7 +19,7 @@ set_sets F d xs i v l = record {
 }
 
 module _ (h : Heaps) where
-  pub index_of : Index (groupAt h.pairs) (spot h.slots.places) (size h.lens) (cell h.slots.cells)
+  pub index_of : Index (group_at h.pairs) (spot h.slots.places) (size h.lens) (cell h.slots.cells)
   index_of = record { member = h.member; placed = h.placed; listed = h.listed; found = h.found }
 
   -- only groups below 64 have classes
@@ -36,7 +36,7 @@ module _ (h : Heaps) where
       room (cell h.slots.cells g) (size h.lens g) k kl
       (λ i l. h.slots.known g i)
       (λ i j low high e. let a = h.placed g i (omega arith) in let b = h.placed g j high in let d = ap (spot h.slots.places) e in omega arith)
-      (λ i l e. let a = h.member g i l in let b = ap (groupAt h.pairs) e in let d = ap groupOr free in omega arith)
+      (λ i l e. let a = h.member g i l in let b = ap (group_at h.pairs) e in let d = ap group_or free in omega arith)
 
 -- what stays in one reordering and in the next
 pub reordered_again : (s t u : Heaps) (g : ℕ) → Reordered s t g → Reordered t u g → Reordered s u g

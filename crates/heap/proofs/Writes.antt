@@ -5,10 +5,10 @@ use Rattle.std.proofs.lemmas.Bool.{cases_eq, cases_lt}
 use Rattle.heap.specs.Slots.{cell}
 
 -- a table of one value, read anywhere
-pub getD_filled : {X : Type 0} (n : ℕ) (x : X) (k : ℕ) → get_or (replicate n x) k x ≡ x
-getD_filled zero x k = refl
-getD_filled (suc n) x zero = refl
-getD_filled (suc n) x (suc k) = getD_filled n x k
+pub get_or_filled : {X : Type 0} (n : ℕ) (x : X) (k : ℕ) → get_or (replicate n x) k x ≡ x
+get_or_filled zero x k = refl
+get_or_filled (suc n) x zero = refl
+get_or_filled (suc n) x (suc k) = get_or_filled n x k
 
 -- what holds of the element at each place, past the end too, outlasts the write of a value of which it holds
 pub kept_set : {X : Type 0} (d : X) (P : ℕ → X → Type 0) (xs : List X) (i : ℕ) (v : X) → P i v → ((k : ℕ) → P k (get_or xs k d)) → (k : ℕ) → P k (get_or (set xs i v) k d)
@@ -24,5 +24,5 @@ kept_set d P xs i v new old k =
 -- and a table of such tables
 pub cell_filled : (m n g i : ℕ) → cell (replicate m (replicate n 0)) g i ≡ 0
 cell_filled zero n g i = refl
-cell_filled (suc m) n zero i = getD_filled n 0 i
+cell_filled (suc m) n zero i = get_or_filled n 0 i
 cell_filled (suc m) n (suc g) i = cell_filled m n g i

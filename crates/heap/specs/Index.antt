@@ -14,22 +14,22 @@ fits None = true
 fits (Some p) = nat_lt p.0 64
 
 -- the group of a pair; 64, which is none, where there is no pair
-abbrev pub groupOr : Option (ℕ × Parts) → ℕ
-groupOr None = 64
-groupOr (Some p) = p.0
+abbrev pub group_or : Option (ℕ × Parts) → ℕ
+group_or None = 64
+group_or (Some p) = p.0
 
 -- the tag of a pair; 0 where there is no pair
-abbrev pub tagOr : Option (ℕ × Parts) → Parts
-tagOr None = record { 0 = 0 }
-tagOr (Some p) = p.1
+abbrev pub tag_or : Option (ℕ × Parts) → Parts
+tag_or None = record { 0 = 0 }
+tag_or (Some p) = p.1
 
 -- the group that class k stands in
-abbrev pub groupAt : List (Option (ℕ × Parts)) → ℕ → ℕ
-groupAt pairs k = groupOr (pair_at pairs k)
+abbrev pub group_at : List (Option (ℕ × Parts)) → ℕ → ℕ
+group_at pairs k = group_or (pair_at pairs k)
 
 -- the rank of class k
 abbrev pub rank_at : List (Option (ℕ × Parts)) → ℕ → ℕ
-rank_at pairs k = rank (tagOr (pair_at pairs k)) k
+rank_at pairs k = rank (tag_or (pair_at pairs k)) k
 
 -- how many classes stand in group g
 abbrev pub size : List ℕ → ℕ → ℕ

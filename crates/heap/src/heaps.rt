@@ -1,6 +1,6 @@
 //! The heaps of all groups over one table of pairs.
 ghost use Rattle.std.specs.Prelude.{◌≡◌, ℕ, ◌<◌, ◌≤◌, true, length};
-ghost use Rattle.heap.specs.Index.{pair_at, fits, groupAt, size};
+ghost use Rattle.heap.specs.Index.{pair_at, fits, group_at, size};
 ghost use Rattle.heap.specs.Slots.{cell, spot};
 
 use crate::slots::Slots;
@@ -19,8 +19,8 @@ pub struct Heaps {
     ghost groups: { length lens ≡ 64 },
     ghost grouped: { (k : ℕ) → fits (pair_at pairs k) ≡ true },
     ghost most: { (g : ℕ) → size lens g ≤ 64 },
-    ghost member: { (g i : ℕ) → i < size lens g → groupAt pairs (cell slots.cells g i) ≡ g },
+    ghost member: { (g i : ℕ) → i < size lens g → group_at pairs (cell slots.cells g i) ≡ g },
     ghost placed: { (g i : ℕ) → i < size lens g → spot slots.places (cell slots.cells g i) ≡ i },
-    ghost listed: { (k : ℕ) → groupAt pairs k < 64 → spot slots.places k < size lens (groupAt pairs k) },
-    ghost found: { (k : ℕ) → groupAt pairs k < 64 → cell slots.cells (groupAt pairs k) (spot slots.places k) ≡ k },
+    ghost listed: { (k : ℕ) → group_at pairs k < 64 → spot slots.places k < size lens (group_at pairs k) },
+    ghost found: { (k : ℕ) → group_at pairs k < 64 → cell slots.cells (group_at pairs k) (spot slots.places k) ≡ k },
 }

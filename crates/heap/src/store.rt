@@ -1,6 +1,6 @@
 //! The store: heaps that are in order.
 ghost use Rattle.std.specs.Prelude.{◌≡◌, ℕ, ◌<◌, Some, None, slice_set};
-ghost use Rattle.heap.specs.Index.{pair_at, groupAt};
+ghost use Rattle.heap.specs.Index.{pair_at, group_at};
 ghost use Rattle.heap.specs.Keys.{count, keys};
 ghost use Rattle.heap.specs.Order.{Ordered};
 ghost use Rattle.std.proofs.Common.{rules, arith};
@@ -31,7 +31,7 @@ impl HeapStore {
     // Removes the pair of a class that stands in the group.
     fn remove(&mut self, group: u8, class: u8)
         requires known { (group < 64) × (class < 64) }
-        requires stands { groupAt self.old.heaps.pairs class ≡ group }
+        requires stands { group_at self.old.heaps.pairs class ≡ group }
         ensures { self.new.heaps.pairs ≡ slice_set self.old.heaps.pairs class None }
     {
         let place = self.heaps.place_of(class);
@@ -45,7 +45,7 @@ impl HeapStore {
 impl TagStore for HeapStore {
     ghost held = { λ s. pair_at s.heaps.pairs };
 
-    ghost small = { first_of (Prim.search rules, Prim.grind (arith, Self.row.coded.inj)) };
+    ghost small = { Prim.search rules };
 
     fn empty() -> HeapStore {
         HeapStore {

@@ -8,7 +8,7 @@ use Rattle.tags.proofs.Room.{room}
 use Rattle.tags.proofs.Uses.{some_tag, some_group}
 use Rattle.sorted.specs.declared.entry.Entry.{Entry}
 use Rattle.sorted.specs.declared.store.SortedStore.{SortedStore}
-use Rattle.sorted.specs.Rows.{row, precedes, differ, Pairwise, heldIn, Found, Parted}
+use Rattle.sorted.specs.Rows.{row, precedes, differ, Pairwise, held_in, Found, Parted}
 use Rattle.sorted.specs.Inserts.{Inserts, each_more, each_less, pairs_more, pairs_less}
 use Rattle.sorted.specs.Means.{pair, two_classes, held_at, held_row}
 use Rattle.sorted.proofs.Precedes.{precedes_group, precedes_rank, precedes_back, precedes_first, follows_first}
@@ -59,14 +59,14 @@ module _ {r : ℕ → Entry} {n : ℕ} (s : Sorted r n) where
         ]
 
     -- the row of a pair of the group
-    group_row : (k : ℕ) (u : Parts) → heldIn r n k ≡ Some (e.group, u) → (i : ℕ) × (i < n) × (p ≤ i) × ((r i).group ≡ e.group) × ((r i).class ≡ k) × ((r i).tag.0 ≡ u.0)
+    group_row : (k : ℕ) (u : Parts) → held_in r n k ≡ Some (e.group, u) → (i : ℕ) × (i < n) × (p ≤ i) × ((r i).group ≡ e.group) × ((r i).class ≡ k) × ((r i).tag.0 ≡ u.0)
     group_row k u h =
         let at = held_row r n k e.group u s.once h in
         let g = some_group (pair (r at.0)) (r at.0).group e.group (r at.0).tag u refl at.3 in
         (at.0, at.1, group_after at.0 at.1 g, g, at.2, sym (some_tag (pair (r at.0)) (r at.0).group e.group (r at.0).tag u refl at.3))
 
     -- none of them is at place p, so there is none
-    pub group_none : (p < n → (r p).group ≡ e.group → ⊥) → Looks (heldIn r n) e.group 64 None
+    pub group_none : (p < n → (r p).group ≡ e.group → ⊥) → Looks (held_in r n) e.group 64 None
     group_none not k u l h =
         let i = group_row k u h in
         elim (cases_eq i.0 p) [
@@ -81,9 +81,9 @@ module _ {r : ℕ → Entry} {n : ℕ} (s : Sorted r n) where
         ]
 
     -- the one at place p is the least
-    pub group_least : p < n → (r p).group ≡ e.group → Least (heldIn r n) e.group (r p).class (r p).tag 64
+    pub group_least : p < n → (r p).group ≡ e.group → Least (held_in r n) e.group (r p).class (r p).tag 64
     group_least l same =
-        least_by_rank (heldIn r n) e.group (r p).class (r p).tag (held_at r n (r p).class p s.once l refl ∙ ap (λ g. Some (g, (r p).tag)) same) (s.classes p l)
+        least_by_rank (held_in r n) e.group (r p).class (r p).tag (held_at r n (r p).class p s.once l refl ∙ ap (λ g. Some (g, (r p).tag)) same) (s.classes p l)
         (λ k u small h.
         let i = group_row k u h in
         let class = i.4 in

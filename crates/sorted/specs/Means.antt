@@ -6,7 +6,7 @@ use Rattle.base.specs.declared.units.Parts.{Parts}
 use Rattle.tags.specs.Held.{with, free}
 use Rattle.tags.proofs.Uses.{none_some}
 use Rattle.sorted.specs.declared.entry.Entry.{Entry}
-use Rattle.sorted.specs.Rows.{differ, Pairwise, heldIn, Found}
+use Rattle.sorted.specs.Rows.{differ, Pairwise, held_in, Found}
 use Rattle.sorted.specs.Inserts.{Inserts, each_more}
 
 -- no class has two of the first n rows
@@ -21,11 +21,11 @@ abbrev pub pair : Entry → Option (ℕ × Parts)
 pair e = Some (e.group, e.tag)
 
 module _ (r : ℕ → Entry) where
-  pub held_none : (n k : ℕ) → Found r n k None → heldIn r n k ≡ None
+  pub held_none : (n k : ℕ) → Found r n k None → held_in r n k ≡ None
   held_none zero k none = refl
   held_none (suc n) k none = rw (ne_eqb (r n).class k (none n (omega arith))) (held_none n k (λ i l. none i (omega arith)))
 
-  pub held_at : (n k i : ℕ) → Once r n → i < n → (r i).class ≡ k → heldIn r n k ≡ pair (r i)
+  pub held_at : (n k i : ℕ) → Once r n → i < n → (r i).class ≡ k → held_in r n k ≡ pair (r i)
   held_at zero k i once l e = absurd (omega arith)
   held_at (suc n) k i once l e =
       elim (cases_lt i n) [
@@ -46,19 +46,19 @@ module _ (r : ℕ → Entry) where
       ]
 
   -- the row that a pair is read from
-  pub held_row : (n k g : ℕ) (t : Parts) → Once r n → heldIn r n k ≡ Some (g, t) → (i : ℕ) × (i < n) × ((r i).class ≡ k) × (pair (r i) ≡ Some (g, t))
+  pub held_row : (n k g : ℕ) (t : Parts) → Once r n → held_in r n k ≡ Some (g, t) → (i : ℕ) × (i < n) × ((r i).class ≡ k) × (pair (r i) ≡ Some (g, t))
   held_row n k g t once e =
       elim (seek n k) [
         | inl some ↦ (some.0, some.1, some.2, sym (held_at n k some.0 once some.1 some.2) ∙ e)
-        | inr none ↦ absurd (none_some (heldIn r n k) g t (held_none n k none) e)
+        | inr none ↦ absurd (none_some (held_in r n k) g t (held_none n k none) e)
       ]
 
   -- a class is free if it has no place
-  pub found_free : (n k : ℕ) (o : Option ℕ) (b : Bool) → Once r n → Found r n k o → is_some o ≡ not b → b ≡ free (heldIn r n k)
+  pub found_free : (n k : ℕ) (o : Option ℕ) (b : Bool) → Once r n → Found r n k o → is_some o ≡ not b → b ≡ free (held_in r n k)
   found_free n k None b once none e = not-false b (sym e) ∙ sym (ap free (held_none n k none))
   found_free n k (Some i) b once at e = not-true b (sym e) ∙ sym (ap free (held_at n k i once at.0 at.1))
 
-  pub free_none : (n k : ℕ) → Once r n → free (heldIn r n k) ≡ true → Found r n k None
+  pub free_none : (n k : ℕ) → Once r n → free (held_in r n k) ≡ true → Found r n k None
   free_none n k once e i l is = true≢false (sym e ∙ ap free (held_at n k i once l is))
 
 module _ {r r' : ℕ → Entry} {n p : ℕ} {e : Entry} (x : Inserts r r' n p e) (once' : Once r' (n + 1)) (once : Once r n) where
@@ -71,7 +71,7 @@ module _ {r r' : ℕ → Entry} {n p : ℕ} {e : Entry} (x : Inserts r r' n p e)
       ]
 
   -- r' means what r means, and e
-  pub held_more : (k : ℕ) → heldIn r' (n + 1) k ≡ with (heldIn r n) e.class (pair e) k
+  pub held_more : (k : ℕ) → held_in r' (n + 1) k ≡ with (held_in r n) e.class (pair e) k
   held_more k =
       elim (cases_eq k e.class) [
         | inl same ↦ rw (eq-eqb k e.class same) (let m = x.place in held_at r' (n + 1) k p once' (omega arith) (ap (λ a. a.class) x.here ∙ sym same) ∙ ap pair x.here)
@@ -81,7 +81,7 @@ module _ {r r' : ℕ → Entry} {n p : ℕ} {e : Entry} (x : Inserts r r' n p e)
         ])
       ]
     where
-      moved : (i : ℕ) → i < n → (r i).class ≡ k → heldIn r' (n + 1) k ≡ heldIn r n k
+      moved : (i : ℕ) → i < n → (r i).class ≡ k → held_in r' (n + 1) k ≡ held_in r n k
       moved i l is =
           elim (cases_lt i p) [
             | inl low ↦ held_at r' (n + 1) k i once' (omega arith) (ap (λ a. a.class) (x.low i low) ∙ is) ∙ (ap pair (x.low i low) ∙ sym (held_at r n k i once l is))
@@ -89,9 +89,9 @@ module _ {r r' : ℕ → Entry} {n p : ℕ} {e : Entry} (x : Inserts r r' n p e)
           ]
 
   -- and r means what r' means, without the class of e
-  pub held_less : (k : ℕ) → heldIn r n k ≡ with (heldIn r' (n + 1)) e.class None k
+  pub held_less : (k : ℕ) → held_in r n k ≡ with (held_in r' (n + 1)) e.class None k
   held_less k =
       elim (cases_eq k e.class) [
-        | inl same ↦ rw (eq-eqb k e.class same) (ap (heldIn r n) same ∙ held_none r n e.class new_class)
+        | inl same ↦ rw (eq-eqb k e.class same) (ap (held_in r n) same ∙ held_none r n e.class new_class)
         | inr other ↦ rw (ne_eqb k e.class other) (sym (rw (ne_eqb k e.class other) at (held_more k)))
       ]

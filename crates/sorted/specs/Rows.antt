@@ -32,9 +32,9 @@ abbrev pub Pairwise : (Entry → Entry → Bool) → (ℕ → Entry) → ℕ →
 Pairwise R r n = (q : ℕ × ℕ) → q.0 < q.1 → q.1 < n → R (r q.0) (r q.1) ≡ true
 
 -- what the first n rows mean: group and tag of class k
-abbrev pub heldIn : (ℕ → Entry) → ℕ → Held
-heldIn r zero k = None
-heldIn r (suc n) k = cond ((r n).class == k) (Some ((r n).group, (r n).tag)) (heldIn r n k)
+abbrev pub held_in : (ℕ → Entry) → ℕ → Held
+held_in r zero k = None
+held_in r (suc n) k = cond ((r n).class == k) (Some ((r n).group, (r n).tag)) (held_in r n k)
 
 -- the place of class k among the first n rows, if it has one
 abbrev pub Found : (ℕ → Entry) → ℕ → ℕ → Option ℕ → Type 0

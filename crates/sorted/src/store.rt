@@ -1,7 +1,7 @@
 //! The store: a list that is in order.
 ghost use Rattle.std.specs.Prelude.{◌≡◌, ℕ, ◌<◌, true, Some, None, refl};
 ghost use Rattle.tags.specs.Held.{with, free};
-ghost use Rattle.sorted.specs.Rows.{row, precedes, differ, Pairwise, heldIn, Parted};
+ghost use Rattle.sorted.specs.Rows.{row, precedes, differ, Pairwise, held_in, Parted};
 ghost use Rattle.std.proofs.Common.{arith};
 ghost use Rattle.sorted.specs.Means.{held_row};
 ghost use Rattle.tags.proofs.Uses.{some_group};
@@ -24,7 +24,7 @@ pub struct SortedStore {
 impl SortedStore {
     // The class has no pair.
     fn is_free(&self, class: u8) -> bool
-        ensures { result ≡ free (heldIn (row self.now.list.entries) self.now.list.len class) }
+        ensures { result ≡ free (held_in (row self.now.list.entries) self.now.list.len class) }
     {
         self.list.position(class).is_none()
     }
@@ -49,8 +49,8 @@ impl SortedStore {
     // Puts in the entry of a class that has none.
     fn insert(&mut self, new: Entry)
         requires known { (new.group < 64) × (new.class < 64) }
-        requires free { free (heldIn (row self.old.list.entries) self.old.list.len new.class) ≡ true }
-        ensures { heldIn (row self.new.list.entries) self.new.list.len ≡ with (heldIn (row self.old.list.entries) self.old.list.len) new.class (Some (new.group, new.tag)) }
+        requires free { free (held_in (row self.old.list.entries) self.old.list.len new.class) ≡ true }
+        ensures { held_in (row self.new.list.entries) self.new.list.len ≡ with (held_in (row self.old.list.entries) self.old.list.len) new.class (Some (new.group, new.tag)) }
     {
         let at = self.place(new);
         self.list.insert(at, new);
@@ -59,14 +59,14 @@ impl SortedStore {
     // Removes the entry at a place.
     fn remove(&mut self, at: usize)
         requires { at < self.old.list.len }
-        ensures { heldIn (row self.new.list.entries) self.new.list.len ≡ with (heldIn (row self.old.list.entries) self.old.list.len) (row self.old.list.entries at).class None }
+        ensures { held_in (row self.new.list.entries) self.new.list.len ≡ with (held_in (row self.old.list.entries) self.old.list.len) (row self.old.list.entries at).class None }
     {
         self.list.remove(at);
     }
 }
 
 impl TagStore for SortedStore {
-    ghost held = { λ s. heldIn (row s.list.entries) s.list.len };
+    ghost held = { λ s. held_in (row s.list.entries) s.list.len };
 
     ghost small = { λ s k g t e.
         let at = held_row (row s.list.entries) s.list.len k g t s.once e in

@@ -3,7 +3,7 @@ use Rattle.std.proofs.Common.{◌≡◌, ℕ, zero, suc, ◌<◌, Bool, true, co
 use mathlib.Core.Path.{fun_ext}
 use Rattle.std.proofs.lemmas.Bool.{lt-ltb, eq-eqb, ne_eqb, cases_lt, cases_eq, cases_Bool, ltb-true, ltb-false, eqb-true, eqb-false}
 use Rattle.base.specs.declared.units.Parts.{Parts}
-use Rattle.tags.specs.Held.{Held, with, mayPut, free, among, leastOf, lower, better, Looks}
+use Rattle.tags.specs.Held.{Held, with, may_put, free, among, least_of, lower, better, Looks}
 
 pub with_same : (h : Held) (c : ℕ) (o : Option (ℕ × Parts)) → with h c o c ≡ o
 with_same h c o = rw (eq-eqb c c refl)
@@ -19,7 +19,7 @@ with_none h c none = fun_ext (λ k. elim (cases_eq k c) [
 ])
 
 -- a put that fits is done
-pub put_done : (h h' : Held) (g c : ℕ) (t : Parts) (r : Bool) → r ≡ mayPut h g c → h' ≡ cond r (with h c (Some (g, t))) h → g < 64 → c < 64 → h c ≡ None → h' ≡ with h c (Some (g, t))
+pub put_done : (h h' : Held) (g c : ℕ) (t : Parts) (r : Bool) → r ≡ may_put h g c → h' ≡ cond r (with h c (Some (g, t))) h → g < 64 → c < 64 → h c ≡ None → h' ≡ with h c (Some (g, t))
 put_done h h' g c t r answer after gl cl none =
     let a = lt-ltb g 64 gl in
     let b = lt-ltb c 64 cl in
@@ -28,19 +28,19 @@ put_done h h' g c t r answer after gl cl none =
     rw yes' at after
 
 -- group and tag of a pair (`cc` does not take pairs apart)
-abbrev groupOr : Option (ℕ × Parts) → ℕ
-groupOr None = 0
-groupOr (Some p) = p.0
+abbrev group_or : Option (ℕ × Parts) → ℕ
+group_or None = 0
+group_or (Some p) = p.0
 
-abbrev tagOr : Option (ℕ × Parts) → ℕ
-tagOr None = 0
-tagOr (Some p) = p.1.0
+abbrev tag_or : Option (ℕ × Parts) → ℕ
+tag_or None = 0
+tag_or (Some p) = p.1.0
 
 pub some_tag : (o : Option (ℕ × Parts)) (f g : ℕ) (t u : Parts) → o ≡ Some (f, t) → o ≡ Some (g, u) → u.0 ≡ t.0
-some_tag o f g t u p q = ap tagOr (sym q ∙ p)
+some_tag o f g t u p q = ap tag_or (sym q ∙ p)
 
 pub some_group : (o : Option (ℕ × Parts)) (f g : ℕ) (t u : Parts) → o ≡ Some (f, t) → o ≡ Some (g, u) → f ≡ g
-some_group o f g t u p q = ap groupOr (sym p ∙ q)
+some_group o f g t u p q = ap group_or (sym p ∙ q)
 
 pub none_some : (o : Option (ℕ × Parts)) (g : ℕ) (u : Parts) → o ≡ None → o ≡ Some (g, u) → ⊥
 none_some o g u p q = let z : ◌≡◌ {A = ℕ} 0 1 = cc in omega arith
@@ -94,8 +94,8 @@ module _ (h : Held) (g : ℕ) where
   among_looks (suc n) = looks_better n (h n) refl (among h g n) (among_looks n)
 
   -- for users: what the defined value is, in words
-  pub least_looks : Looks h g 64 (leastOf h g)
-  unfolding leastOf
+  pub least_looks : Looks h g 64 (least_of h g)
+  unfolding least_of
   least_looks = among_looks 64
 
   -- and there is no other
@@ -113,5 +113,5 @@ module _ (h : Held) (g : ℕ) where
       λ i. Some (s i, record { 0 = t i })
 
   -- for implementations: what meets the words is the defined value
-  pub looks_least : (o : Option (ℕ × Parts)) → Looks h g 64 o → o ≡ leastOf h g
-  looks_least o a = looks_one 64 o (leastOf h g) a least_looks
+  pub looks_least : (o : Option (ℕ × Parts)) → Looks h g 64 o → o ≡ least_of h g
+  looks_least o a = looks_one 64 o (least_of h g) a least_looks

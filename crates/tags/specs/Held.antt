@@ -28,8 +28,8 @@ free None = true
 free (Some p) = false
 
 -- a pair may be put: group and class are below 64 and the class is free
-abbrev pub mayPut : Held → ℕ → ℕ → Bool
-mayPut h g c = nat_lt g 64 && (nat_lt c 64 && free (h c))
+abbrev pub may_put : Held → ℕ → ℕ → Bool
+may_put h g c = nat_lt g 64 && (nat_lt c 64 && free (h c))
 
 -- class k with tag t against the best so far: a lower tag wins, and at equal tags the best so far stays
 abbrev pub lower : ℕ → Parts → Option (ℕ × Parts) → Option (ℕ × Parts)
@@ -47,8 +47,8 @@ among h g zero = None
 among h g (suc n) = better g n (h n) (among h g n)
 
 -- of group g the pair with the least tag, then the lowest class (no `abbrev`, since at 64 that would compute to 64 steps)
-unfoldable pub leastOf : Held → ℕ → Option (ℕ × Parts)
-leastOf h g = among h g 64
+unfoldable pub least_of : Held → ℕ → Option (ℕ × Parts)
+least_of h g = among h g 64
 
 -- the same in words: the class c stands in group g with tag t, and no other class below n of the group has a lower tag, or the same tag and a lower number
 pub record Least (h : Held) (g c : ℕ) (t : Parts) (n : ℕ) : Type 0 where

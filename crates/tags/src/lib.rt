@@ -2,7 +2,7 @@
 #![tactic(auto)]
 
 ghost use Rattle.std.specs.Prelude.{◌≡◌, if◌then◌else◌, Some, None};
-ghost use Rattle.tags.specs.Held.{Held, Small, nothing, with, tag_of, mayPut, leastOf, Looks};
+ghost use Rattle.tags.specs.Held.{Held, Small, nothing, with, tag_of, may_put, least_of, Looks};
 
 use base::units::Parts;
 
@@ -17,12 +17,12 @@ pub trait TagStore: Sized {
 
     /// Puts the class with its tag into the group. The answer is no, and nothing is altered, exactly when the group or the class is above 63 or the class stands already.
     fn put(&mut self, group: u8, class: u8, tag: Parts) -> bool
-        ensures answer { result ≡ mayPut (held self.old) group class }
+        ensures answer { result ≡ may_put (held self.old) group class }
         ensures after { held self.new ≡ (if result then with (held self.old) class (Some (group, tag)) else held self.old) };
 
     /// Class and tag of the pair of the group that has the least tag, and of such pairs the lowest class. None exactly when the group has no pair.
     fn least(&self, group: u8) -> Option<(u8, Parts)>
-        ensures value { result ≡ leastOf (held self.now) group }
+        ensures value { result ≡ least_of (held self.now) group }
         ensures looks { Looks (held self.now) group 64 result };
 
     /// Removes the pair of the class and answers its tag. None, and nothing is altered, exactly when the class has no pair.

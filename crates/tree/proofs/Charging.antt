@@ -4,7 +4,7 @@ use mathlib.Core.Bool.{and-true, and-false}
 use Rattle.std.proofs.lemmas.Bool.{and_left, cases_eq, eq-eqb, ne_eqb, lt-ltb, not_from_true}
 use Rattle.base.specs.Charge.{charged}
 use Rattle.base.specs.declared.units.Parts.{Parts}
-use Rattle.tags.specs.Held.{Held, with, mayPut}
+use Rattle.tags.specs.Held.{Held, with, may_put}
 use Rattle.tags.proofs.Uses.{put_done, with_same, with_other}
 use Rattle.rules.specs.Shape.{Shape}
 use Rattle.tree.specs.Loads.{load, stocked}
@@ -36,7 +36,7 @@ module _ (t : Shape) (w : ℕ → ℕ) (d : ℕ) (gone : Bool) (ls : List Load) 
   -- a class but the root that is still backlogged
   module _ (node b : ℕ) (s f : Parts) (h h' h'' : Held) (r : Bool) (known : c < length ls) (few : c < 64) (low : node < 64) (up : (0 < c) × (t.parent c ≡ node))
       (left : b ≡ cond gone ((load ls c).backlog - 1) (load ls c).backlog) (some : b ≡ 0 → ⊥) (finish : f.0 ≡ (load ls c).start.0 + charged d (w c)) (start : s.0 ≡ max (load ls node).vtime.0 f.0)
-      (took : h' ≡ with h c None) (answer : r ≡ mayPut h' node c) (after : h'' ≡ cond r (with h' c (Some (node, s))) h') where
+      (took : h' ≡ with h c None) (answer : r ≡ may_put h' node c) (after : h'' ≡ cond r (with h' c (Some (node, s))) h') where
     abbrev x : Load
     x = record { backlog = b; start = s; finish = f; vtime = (load ls c).vtime }
 

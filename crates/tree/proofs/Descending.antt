@@ -2,14 +2,14 @@
 use Rattle.std.proofs.Common.{◌≡◌, ℕ, zero, suc, ◌+◌, ◌<◌, ◌≤◌, Bool, true, false, cond, ltb, Some, None, sym, refl, ap, ◌∙◌, arith}
 use Rattle.std.proofs.lemmas.Bool.{lt-ltb}
 use Rattle.base.specs.declared.units.Parts.{Parts}
-use Rattle.tags.specs.Held.{Held, leastOf}
+use Rattle.tags.specs.Held.{Held, least_of}
 use Rattle.tree.specs.Walks.{child_or, down, lowest, below_root, pick}
 
 -- after i steps from a node the way has come to `node`, and what is left of it leads to its end
 abbrev pub Left : Held → ℕ → ℕ → ℕ → Type 0
 Left h from node i = (n : ℕ) × (n + i ≡ 7) × (down h n node ≡ lowest h from)
 
-down_none : (h : Held) (n node : ℕ) → leastOf h node ≡ None → down h n node ≡ node
+down_none : (h : Held) (n node : ℕ) → least_of h node ≡ None → down h n node ≡ node
 down_none h zero node e = refl
 down_none h (suc n) node e = ap (λ o. down h n (child_or o node)) e ∙ down_none h n node e
 
@@ -18,12 +18,12 @@ module _ (h : Held) (from : ℕ) where
   unfolding lowest
   left_all = (7, refl, refl)
 
-  pub left_more : (node i child : ℕ) (tag : Parts) → i < 7 → Some (child, tag) ≡ leastOf h node → Left h from node i → Left h from child (i + 1)
+  pub left_more : (node i child : ℕ) (tag : Parts) → i < 7 → Some (child, tag) ≡ least_of h node → Left h from node i → Left h from child (i + 1)
   left_more node i child tag l e (zero, fuel, to) = absurd (omega arith)
   left_more node i child tag l e (suc n, fuel, to) = (n, omega arith, ap (λ o. down h n (child_or o node)) e ∙ to)
 
   -- the node has no child in the store, or the way is as long as it may be
-  pub left_none : (node i : ℕ) → None ≡ leastOf h node → Left h from node i → node ≡ lowest h from
+  pub left_none : (node i : ℕ) → None ≡ least_of h node → Left h from node i → node ≡ lowest h from
   left_none node i e (n, fuel, to) = sym (down_none h n node (sym e)) ∙ to
 
   pub left_end : (node i : ℕ) → 7 ≤ i → Left h from node i → node ≡ lowest h from
@@ -41,10 +41,10 @@ module _ (h : Held) (from : ℕ) where
     pick_root a w = sym (rw (a, lt-ltb 0 waiting (omega arith)) refl)
 
     -- a root with children
-    pub pick_none : alone ≡ false → None ≡ leastOf h 0 → None ≡ pick h alone waiting
+    pub pick_none : alone ≡ false → None ≡ least_of h 0 → None ≡ pick h alone waiting
     unfolding pick
-    pick_none a e = ap (below_root h) e ∙ sym (ap (λ b. cond b (cond (ltb 0 waiting) (Some 0) None) (below_root h (leastOf h 0))) a)
+    pick_none a e = ap (below_root h) e ∙ sym (ap (λ b. cond b (cond (ltb 0 waiting) (Some 0) None) (below_root h (least_of h 0))) a)
 
-    pub pick_some : (tag : Parts) (leaf : ℕ) → alone ≡ false → Some (from, tag) ≡ leastOf h 0 → leaf ≡ lowest h from → Some leaf ≡ pick h alone waiting
+    pub pick_some : (tag : Parts) (leaf : ℕ) → alone ≡ false → Some (from, tag) ≡ least_of h 0 → leaf ≡ lowest h from → Some leaf ≡ pick h alone waiting
     unfolding pick lowest
-    pick_some tag leaf a e low = ap Some low ∙ ap (below_root h) e ∙ sym (ap (λ b. cond b (cond (ltb 0 waiting) (Some 0) None) (below_root h (leastOf h 0))) a)
+    pick_some tag leaf a e low = ap Some low ∙ ap (below_root h) e ∙ sym (ap (λ b. cond b (cond (ltb 0 waiting) (Some 0) None) (below_root h (least_of h 0))) a)

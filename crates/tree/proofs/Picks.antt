@@ -9,7 +9,7 @@ use Rattle.rules.proofs.Tests.{not_some}
 use Rattle.rules.proofs.Tree.{child_decides, root_above, no_leaf}
 use Rattle.rules.proofs.Backlog.{busy_known, busy_above}
 use Rattle.rules.proofs.Picks.{best_next, goes_on}
-use Rattle.tags.specs.Held.{Held, leastOf, Looks}
+use Rattle.tags.specs.Held.{Held, least_of, Looks}
 use Rattle.tags.proofs.Uses.{least_looks, some_tag, some_group}
 use Rattle.tree.specs.Walks.{child_or, down, below_root, pick}
 
@@ -62,7 +62,7 @@ module _ {I : Type 0} (s : State I) (ok : Sound s.shape) (leaves : (l : ℕ) →
       let (kid, busy, _) = stands_in node p.0 p.1 looks.stands in
       absurd (no_leaf ok node p.0 (busy_known ok s.queued p.0 busy) kid end)
 
-  stays : (f node : ℕ) → child_or (leastOf h node) node ≡ node → down h f node ≡ node
+  stays : (f node : ℕ) → child_or (least_of h node) node ≡ node → down h f node ≡ node
   stays zero node e = refl
   stays (suc f) node e = ap (down h f) e ∙ stays f node e
 
@@ -100,5 +100,5 @@ module _ {I : Type 0} (s : State I) (ok : Sound s.shape) (leaves : (l : ℕ) →
   unfolding pick picked
   pick_is n e = elim (cases_Bool (leaf s.shape 0)) [
     | inl end ↦ cond-true (leaf s.shape 0) _ _ end ∙ ap (λ b. cond b (Some 0) None) e ∙ sym (ap (λ k. cond (backlogged s 0) (Some k) None) (cond-true (leaf s.shape 0) 0 (descend s 7 (next s 0)) end))
-    | inr inner ↦ cond-false (leaf s.shape 0) _ _ inner ∙ from_root inner (leastOf h 0) (least_looks h 0) ∙ sym (ap (λ k. cond (backlogged s 0) (Some k) None) (cond-false (leaf s.shape 0) 0 (descend s 7 (next s 0)) inner))
+    | inr inner ↦ cond-false (leaf s.shape 0) _ _ inner ∙ from_root inner (least_of h 0) (least_looks h 0) ∙ sym (ap (λ k. cond (backlogged s 0) (Some k) None) (cond-false (leaf s.shape 0) 0 (descend s 7 (next s 0)) inner))
   ]

@@ -3,7 +3,7 @@
 use Rattle.std.specs.Prelude.{◌≡◌, ℕ, zero, suc, ◌+◌, ◌-◌, ◌<◌, max, Bool, true, false, cond, not, ◌&&◌, List, Some, None, Option, ◌==◌, nat_lt}
 use Rattle.base.specs.Charge.{charged}
 use Rattle.base.specs.declared.units.Parts.{Parts}
-use Rattle.tags.specs.Held.{Held, free, leastOf}
+use Rattle.tags.specs.Held.{Held, free, least_of}
 use Rattle.rules.specs.Shape.{Shape, under, child}
 use Rattle.tree.specs.Loads.{load}
 use Rattle.tree.specs.declared.load.Load.{Load}
@@ -80,7 +80,7 @@ child_or (Some p) node = p.0
 -- n steps down from a node
 abbrev pub down : Held → ℕ → ℕ → ℕ
 down h zero node = node
-down h (suc n) node = down h n (child_or (leastOf h node) node)
+down h (suc n) node = down h n (child_or (least_of h node) node)
 
 -- as far down from a node as the store leads, since no class is deeper than 7 (no `abbrev`, since at 7 that would compute)
 unfoldable pub lowest : Held → ℕ → ℕ
@@ -93,4 +93,4 @@ below_root h (Some p) = Some (down h 7 p.0)
 
 -- the leaf that a dispatch serves: the root where it has no children and counts an item
 unfoldable pub pick : Held → Bool → ℕ → Option ℕ
-pick h alone waiting = cond alone (cond (nat_lt 0 waiting) (Some 0) None) (below_root h (leastOf h 0))
+pick h alone waiting = cond alone (cond (nat_lt 0 waiting) (Some 0) None) (below_root h (least_of h 0))

@@ -1,6 +1,6 @@
 //! Single steps on the heaps.
 ghost use Rattle.std.specs.Prelude.{◌≡◌, ℕ, ◌+◌, ◌-◌, ◌<◌, Some, None, ◌≢◌, nat_lt, slice_set};
-ghost use Rattle.heap.specs.Index.{pair_at, tagOr, exchanged};
+ghost use Rattle.heap.specs.Index.{pair_at, tag_or, exchanged};
 ghost use Rattle.heap.specs.Keys.{classes, count, keys, Reordered};
 ghost use Rattle.heap.specs.Slots.{spot};
 
@@ -32,7 +32,7 @@ impl Heaps {
     /// The tag of a class, 0 where it does not stand.
     pub(crate) fn tag(&self, class: u8) -> Parts
         requires { class < 64 }
-        ensures { result ≡ tagOr (pair_at self.now.pairs class) }
+        ensures { result ≡ tag_or (pair_at self.now.pairs class) }
     {
         match self.pairs[class as usize] {
             Some((_, tag)) => tag,

@@ -2,7 +2,7 @@ use Rattle.std.proofs.Common.{◌≡◌, ℕ, ◌+◌, ◌≤◌, true, Some, No
 use Rattle.std.proofs.lemmas.List.{length-set}
 use Rattle.std.proofs.lemmas.Bool.{lt-ltb}
 use Rattle.base.specs.declared.units.Parts.{Parts}
-use Rattle.heap.specs.Index.{fits, groupOr, size}
+use Rattle.heap.specs.Index.{fits, group_or, size}
 use Rattle.heap.proofs.Index.{append_kept}
 use Rattle.heap.proofs.Kept.{index_of, group_known, heap_room, set_sets}
 use Rattle.heap.proofs.Writes.{kept_set}
@@ -21,9 +21,9 @@ invariant_of-self c =
     let gl = c.requires.known.0 in
     let kl = c.requires.known.1 in
     let full = heap_room s g k gl kl c.requires.free in
-    let p = set_sets groupOr None s.pairs k pair (let e = s.classes in omega arith) in
+    let p = set_sets group_or None s.pairs k pair (let e = s.classes in omega arith) in
     let m = set_sets (λ v. v) 0 s.lens g (n + 1) (let e = s.groups in omega arith) in
-    let x = append_kept (index_of s) g k (group_known s) (ap groupOr c.requires.free) p c.write.ensures m in
+    let x = append_kept (index_of s) g k (group_known s) (ap group_or c.requires.free) p c.write.ensures m in
     record {
       classes = length-set s.pairs k pair ∙ s.classes;
       groups = length-set s.lens g (n + 1) ∙ s.groups;

@@ -1,7 +1,7 @@
 use Rattle.std.proofs.Common.{Some, None, sym, subst, arith}
 use Rattle.tags.specs.Held.{Least, Looks}
 use Rattle.tags.proofs.Uses.{looks_least}
-use Rattle.heap.specs.Index.{pair_at, tagOr}
+use Rattle.heap.specs.Index.{pair_at, tag_or}
 use Rattle.heap.proofs.Roots.{empty_looks, root_least}
 use Rattle.heap.proofs.store.HeapStoreTagStore.least.Goals as goal
 use Rattle.heap.proofs.store.HeapStoreTagStore.least.Goals.{then-group-ge64-via-then-group-ge64, then-group-ge64-via-else-group-ge64+then-len-eq0}
@@ -24,6 +24,6 @@ returns c =
     let n = c.len.ensures in
     let some = c.if-len-eq0.false in
     let root = root_least h g c.if-group-ge64.false (omega (arith, some)) (c.args.self.now.ordered g) in
-    let class = subst (λ j. Least (pair_at h.pairs) g j (tagOr (pair_at h.pairs j)) 64) (sym c.class_at-class.ensures.value) root in
+    let class = subst (λ j. Least (pair_at h.pairs) g j (tag_or (pair_at h.pairs j)) 64) (sym c.class_at-class.ensures.value) root in
     let both = subst (λ t. Least (pair_at h.pairs) g k t 64) (sym c.tag.ensures) class in
     record { value = looks_least (pair_at h.pairs) g (Some (k, c.tag.result)) both; looks = both }

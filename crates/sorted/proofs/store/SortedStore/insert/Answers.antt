@@ -1,6 +1,6 @@
 use Rattle.std.proofs.Common.{sym, ap, ◌∙◌, subst}
 use mathlib.Core.Path.{fun_ext}
-use Rattle.sorted.specs.Rows.{row, heldIn}
+use Rattle.sorted.specs.Rows.{row, held_in}
 use Rattle.sorted.specs.Inserts.{from_inserted}
 use Rattle.sorted.specs.Means.{free_none, held_more}
 use Rattle.sorted.proofs.Sorts.{Sorted, sorted_of, sorted_more, rows_room}
@@ -41,4 +41,4 @@ returns c =
     let none = free_none r n new.class s.once c.requires.free in
     let x = from_inserted r (row t.entries) n c.place-at.result new c.place-at.ensures.most c.insert.ensures.rows in
     let more = sorted_more x (sorted_of s) c.place-at.ensures c.requires.known.0 c.requires.known.1 none in
-    ap (heldIn (row t.entries)) c.insert.ensures.len ∙ fun_ext (held_more x more.once s.once)
+    ap (held_in (row t.entries)) c.insert.ensures.len ∙ fun_ext (held_more x more.once s.once)

@@ -1,7 +1,7 @@
 use Rattle.std.proofs.Common.{None, sym, ap, ◌∙◌, subst, arith}
 use mathlib.Core.Path.{fun_ext}
 use Rattle.tags.specs.Held.{with}
-use Rattle.sorted.specs.Rows.{row, heldIn}
+use Rattle.sorted.specs.Rows.{row, held_in}
 use Rattle.sorted.specs.Inserts.{from_removed}
 use Rattle.sorted.specs.Means.{held_less}
 use Rattle.sorted.proofs.Sorts.{Sorted, sorted_of, sorted_less}
@@ -31,4 +31,4 @@ returns c =
     let at = c.requires in
     let x = from_removed r (row t.entries) t.len c.args.at (omega arith) c.remove.ensures.rows in
     let was = subst (Sorted r) (sym len) (sorted_of s) in
-    fun_ext (held_less x was.once (sorted_less x was).once) ∙ ap (λ n. with (heldIn r n) (r c.args.at).class None) len
+    fun_ext (held_less x was.once (sorted_less x was).once) ∙ ap (λ n. with (held_in r n) (r c.args.at).class None) len

@@ -1,7 +1,7 @@
 use Rattle.std.proofs.Common.{Some, None, sym, refl, ap, ◌∙◌, subst, arith}
 use Rattle.tags.specs.Held.{Least}
 use Rattle.tags.proofs.Uses.{looks_least}
-use Rattle.sorted.specs.Rows.{row, heldIn}
+use Rattle.sorted.specs.Rows.{row, held_in}
 use Rattle.sorted.proofs.Sorts.{sorted_of, group_none, group_least}
 use Rattle.sorted.proofs.store.SortedStoreTagStore.least.Goals as goal
 
@@ -23,7 +23,7 @@ pub returns : goal.returns
 returns c =
     let s = c.args.self.now in
     let g = c.args.group in
-    let h = heldIn (row s.list.entries) s.list.len in
+    let h = held_in (row s.list.entries) s.list.len in
     let e = c.get-entry.result in
     let is = c.get-entry.ensures in
     let len = c.len.ensures in
