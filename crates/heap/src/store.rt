@@ -3,7 +3,7 @@ ghost use Rattle.std.specs.Prelude.{◌≡◌, ℕ, ◌<◌, Some, None, slice_s
 ghost use Rattle.heap.specs.Index.{pair_at, group_at};
 ghost use Rattle.heap.specs.Keys.{count, keys};
 ghost use Rattle.heap.specs.Order.{Ordered};
-ghost use Rattle.std.proofs.Common.{rules, arith};
+ghost use Rattle.std.proofs.Common.{rules};
 
 use crate::heaps::Heaps;
 use base::units::Parts;

@@ -6,8 +6,6 @@ use base::units::Units;
 
 pub mod serve;
 
-use crate::server::Server;
-
 /// A server that does at most `rate` units in a draw.
 #[derive(Drop)]
 pub struct FixedLink {

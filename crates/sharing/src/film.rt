@@ -1,5 +1,5 @@
 //! A film beside touch on one drive.
-ghost use Rattle.std.specs.Prelude.{◌≡◌, ℕ, ◌+◌, ◌≤◌, IfOk};
+ghost use Rattle.std.specs.Prelude.{◌≡◌, ◌+◌, ◌≤◌, IfOk};
 ghost use Rattle.sharing.specs.Shares.{turns, charged};
 ghost use Rattle.tree.specs.Trees.{InStep};
 

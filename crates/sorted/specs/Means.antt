@@ -3,8 +3,8 @@ use Rattle.std.specs.Prelude.{◌≡◌, ℕ, zero, suc, ◌+◌, ◌<◌, Bool,
 use Rattle.std.proofs.Common.{sym, ap, ◌∙◌, inl, inr, arith}
 use Rattle.std.proofs.lemmas.Bool.{cases_lt, cases_eq, eq-eqb, ne_eqb, eqb-false, not-true, not-false, true≢false}
 use Rattle.base.specs.declared.units.Parts.{Parts}
-use Rattle.tags.specs.Held.{with, free}
-use Rattle.tags.proofs.Uses.{none_some}
+use Rattle.tags.specs.Held.{Small, with, free}
+use Rattle.tags.proofs.Uses.{none_some, some_group}
 use Rattle.sorted.specs.declared.entry.Entry.{Entry}
 use Rattle.sorted.specs.Rows.{differ, Pairwise, held_in, Found}
 use Rattle.sorted.specs.Inserts.{Inserts, each_more}
@@ -52,6 +52,16 @@ module _ (r : ℕ → Entry) where
         | inl some ↦ (some.0, some.1, some.2, sym (held_at n k some.0 once some.1 some.2) ∙ e)
         | inr none ↦ absurd (none_some (held_in r n k) g t (held_none n k none) e)
       ]
+
+  -- where the classes and groups of the rows are below 64, so is each class that stands, and its group
+  pub held_small : (n : ℕ) → Once r n → ((i : ℕ) → i < n → (r i).class < 64) → ((i : ℕ) → i < n → (r i).group < 64) → Small (held_in r n)
+  held_small n once classes groups k g t e =
+      let at = held_row n k g t once e in
+      let class = classes at.0 at.1 in
+      let group = groups at.0 at.1 in
+      let is = at.2 in
+      let same = some_group _ _ _ _ _ refl at.3 in
+      (omega arith, omega arith)
 
   -- a class is free if it has no place
   pub found_free : (n k : ℕ) (o : Option ℕ) (b : Bool) → Once r n → Found r n k o → is_some o ≡ not b → b ≡ free (held_in r n k)

@@ -1,10 +1,8 @@
 //! The store: a list that is in order.
-ghost use Rattle.std.specs.Prelude.{◌≡◌, ℕ, ◌<◌, true, Some, None, refl};
+ghost use Rattle.std.specs.Prelude.{◌≡◌, ℕ, ◌<◌, true, Some, None};
 ghost use Rattle.tags.specs.Held.{with, free};
 ghost use Rattle.sorted.specs.Rows.{row, precedes, differ, Pairwise, held_in, Parted};
-ghost use Rattle.std.proofs.Common.{arith};
-ghost use Rattle.sorted.specs.Means.{held_row};
-ghost use Rattle.tags.proofs.Uses.{some_group};
+ghost use Rattle.sorted.specs.Means.{held_small};
 
 use crate::entry::Entry;
 use crate::list::EntryList;
@@ -68,13 +66,7 @@ impl SortedStore {
 impl TagStore for SortedStore {
     ghost held = { λ s. held_in (row s.list.entries) s.list.len };
 
-    ghost small = { λ s k g t e.
-        let at = held_row (row s.list.entries) s.list.len k g t s.once e in
-        let class = s.classes at.0 at.1 in
-        let group = s.groups at.0 at.1 in
-        let is = at.2 in
-        let same = some_group _ _ _ _ _ refl at.3 in
-        (omega arith, omega arith) };
+    ghost small = { λ s. held_small (row s.list.entries) s.list.len s.once s.classes s.groups };
 
     fn empty() -> SortedStore {
         SortedStore {

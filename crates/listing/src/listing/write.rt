@@ -1,7 +1,7 @@
 //! Writing a listing line by line.
 ghost use Rattle.std.specs.Prelude.{◌≡◌, true, false, [], string_bytes, MatchResult};
 ghost use Rattle.listing.specs.Lines.{ended};
-ghost use Rattle.listing.specs.Listings.{Holds, Gains};
+ghost use Rattle.listing.specs.Listings.{Gains};
 
 use crate::line::Line;
 use crate::listing::Listing;

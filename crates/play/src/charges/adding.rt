@@ -1,6 +1,6 @@
 //! Charging a leaf and the classes above it.
 ghost use Rattle.std.specs.Prelude.{◌≡◌, ℕ, ◌<◌, if◌then◌else◌, nat_eq};
-ghost use Rattle.classes.specs.Tables.{shape_of, node_above};
+ghost use Rattle.classes.specs.Tables.{shape_of};
 ghost use Rattle.rules.specs.Shape.{under};
 ghost use Rattle.play.specs.Charges.{charged_at, more};
 

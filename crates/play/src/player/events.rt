@@ -1,5 +1,4 @@
 //! The events, one call each.
-ghost use Rattle.std.specs.Prelude.{◌≡◌};
 ghost use Rattle.shelf.specs.declared.shelf.Shelf.{Shelf};
 ghost use Rattle.text.specs.declared.line.Event.TheVariants.{Submit, Dispatch as dispatched, Pulse, End, GiveUp};
 ghost use Rattle.play.specs.Players.{PlaysOn};
