@@ -1,7 +1,7 @@
 #!/usr/bin/env python3
 """Brings the repository's own definitions and lemmas to the spelling of today's Rattle.
 
-usage: python3 tools/respell.py      at the top of the repository, once, after /opt/rattle/port/port.py
+usage: python3 tools/respell.py      at the top of the repository, once, after the port.py of the kit
 
 A word that a file of specs/ or proofs/ declares is written in snake case, a type in camel case: `end-turn` becomes `end_turn`,
 `leastOf` becomes `least_of`, `Held-turn` becomes `HeldTurn`. It is turned wherever it stands: in specs/, in proofs/, in clauses of src/ and in the edits of
