@@ -14,7 +14,7 @@ use Rattle.tree.specs.Trees.{opening}
 use Rattle.play.specs.Plays.{Plays}
 use Rattle.items.specs.contracts.QuantumItem.TheImpl.{ghosts as QuantumItem}
 use Rattle.items.specs.contracts.BlockItem.TheImpl.{ghosts as BlockItem}
-use Rattle.links.specs.contracts.fixed.serve.FixedLinkServer.TheImpl.{ghosts as FixedServer}
+use Rattle.links.specs.contracts.fixed.serve.FixedLinkServer.TheImpl.{ghosts as FixedLinkServer}
 use Rattle.links.specs.Interrupts.{Interrupts}
 use Rattle.links.specs.declared.fixed.FixedLink.{FixedLink}
 use Rattle.links.specs.declared.interrupted.Interrupted.{Interrupted}
@@ -26,7 +26,7 @@ use Rattle.trace.specs.Traces.{Accepted, Faulted}
 
 -- an interrupted link over a fixed one
 abbrev pub link : Server (Interrupted FixedLink)
-link = record { work = λ x. FixedServer.work x.below; draws = λ x n d y. Interrupts FixedServer.draws x n d y }
+link = record { work = λ x. FixedLinkServer.work x.below; draws = λ x n d y. Interrupts FixedLinkServer.draws x n d y }
 
 -- `s NAME CHARGES` for each class below number n
 abbrev pub sums : ClassTable → (ℕ → ℕ) → ℕ → List ℕ

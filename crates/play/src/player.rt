@@ -1,8 +1,5 @@
 //! A tree with its link, on which events are played.
 use crate::charges::Charges;
-use items::Item;
-use links::server::Server;
-use tags::TagStore;
 use tree::tree::{Grant, Tree};
 
 mod events;

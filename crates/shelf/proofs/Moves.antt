@@ -134,7 +134,7 @@ module _ (t : LinkTable) (from to last head : ℕ)
       (cases_eq j from))
       (cases_eq j to)
 
-  -- each place of a chain stood at one place of a chain before: at (k, i) before, it stands at (back-lane k i, back_at k i) now
+  -- each place of a chain stood at one place of a chain before: at (k, i) before, it stands at (back_lane k i, back_at k i) now
   abbrev back_lane : ℕ → ℕ → ℕ
   back_lane k i = cond (eqb k from && eqb i 0) to k
 

@@ -2,7 +2,6 @@
 ghost use Rattle.std.specs.Prelude.{◌≡◌, length};
 
 use crate::load::Load;
-use tags::TagStore;
 
 pub(crate) mod descent;
 pub(crate) mod reading;

@@ -12,9 +12,7 @@ use crate::phase::Phase;
 use crate::queue::Queue;
 use base::units::Units;
 use classes::table::ClassTable;
-use items::Item;
 use std::marker::PhantomData;
-use tags::TagStore;
 
 pub mod call;
 pub mod calls;
@@ -26,7 +24,7 @@ pub mod reading;
 /// above 720,720 times its meter.
 ///
 /// The store of every tree holds, under each node's number, exactly its backlogged children with their start tags: opening says so, each
-/// call keeps it, and nothing else can alter a tree. No field can say it, since only the store knows what it holds.
+/// call keeps it, and nothing else can alter a tree.
 #[derive(Drop)]
 pub struct Tree<T, I> {
     house: u32,
