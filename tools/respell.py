@@ -4,9 +4,9 @@
 usage: python3 tools/respell.py      at the top of the repository, once, after the port.py of the kit
 
 A word that a file of specs/ or proofs/ declares is written in snake case, a type in camel case: `end-turn` becomes `end_turn`,
-`leastOf` becomes `least_of`, `Held-turn` becomes `HeldTurn`. It is turned wherever it stands: in specs/, in proofs/, in clauses of src/ and in the edits of
-must-fail/. Functions of src/, names that Rattle makes for a function's goals, strings, inputs and outputs keep theirs. A word that was
-quoted in a clause only for its dash or underscore loses the quotes.
+`leastOf` becomes `least_of`, `Held-turn` becomes `HeldTurn`. It is turned wherever it stands: in specs/, in proofs/, in clauses of
+src/ and in the edits of must-fail/. Functions of src/, names that Rattle makes for a function's goals, strings, inputs and outputs
+keep theirs. A word that was quoted in a clause only for its dash or underscore loses the quotes.
 """
 
 import os
