@@ -1,2 +1,3 @@
 pub mod Charge
 pub mod Numbers
+pub mod Words

@@ -1,6 +1,7 @@
 //! Work is counted in units, tags in parts.
-ghost use Rattle.std.specs.Prelude.{◌≡◌, ◌+◌, ◌^◌, ◌<◌, max};
+ghost use Rattle.std.specs.Prelude.{◌≡◌, ◌+◌, ◌^◌, ◌<◌, max, Some, decimal};
 
+use std::fmt;
 use std::ops::Add;
 
 /// Work. A unit is a millisecond of the processor or a sector of the drive.
@@ -8,6 +9,7 @@ use std::ops::Add;
 pub struct Units(u64);
 
 /// What tags and virtual times are counted in.
+// A struct beside `Units` and not one generic over what it counts: only `charge` turns work into parts.
 #[derive(Clone, Copy, PartialEq, Eq, PartialOrd, Ord, Default, Debug)]
 pub struct Parts(u64);
 
@@ -40,6 +42,15 @@ impl Add<Units> for Units {
     }
 }
 
+impl fmt::Display for Units {
+    ghost output = { λ units. Some (decimal units.0) };
+
+    fn fmt<W: fmt::Write>(&self, f: &mut fmt::Formatter<W>) -> fmt::Result {
+        let units = self.get();
+        write!(f, "{units}")
+    }
+}
+
 impl Parts {
     pub const ZERO: Parts = Parts(0);
 
@@ -60,7 +71,7 @@ impl Parts {
     pub fn max(self, other: Parts) -> Parts
         ensures { result.0 ≡ max self.0 other.0 }
     {
-        if self < other { other } else { self }
+        Ord::max(self, other)
     }
 }
 
@@ -73,5 +84,14 @@ impl Add<Parts> for Parts {
 
     fn add(self, other: Parts) -> Parts {
         Parts(self.0 + other.0)
+    }
+}
+
+impl fmt::Display for Parts {
+    ghost output = { λ parts. Some (decimal parts.0) };
+
+    fn fmt<W: fmt::Write>(&self, f: &mut fmt::Formatter<W>) -> fmt::Result {
+        let parts = self.get();
+        write!(f, "{parts}")
     }
 }

@@ -18,7 +18,7 @@ impl Weight {
     pub fn new(number: u32) -> Result<Weight, Refusal>
         ensures { MatchResult result (λ w. w.value ≡ number) (λ e. (e ≡ Refusal.BadWeight) × ((number < 1) ⊎ (16 < number))) }
     {
-        if number < 1 || number > 16 {
+        if !(1..=16).contains(&number) {
             return Err(Refusal::BadWeight);
         }
         Ok(Weight {
@@ -39,10 +39,7 @@ pub fn charge(done: Units, weight: Weight) -> Option<Parts>
     ensures { result ≡ charge_of done.0 weight.value }
 {
     let share = 720_720 / weight.get() as u64;
-    match done.get().checked_mul(share) {
-        Some(parts) => Some(Parts::new(parts)),
-        None => None,
-    }
+    done.get().checked_mul(share).map(Parts::new)
 }
 
 #[cfg(test)]
@@ -77,11 +74,10 @@ mod tests {
             (409_518_127_954_481, 16, None),
             (u64::MAX, 16, None),
         ] {
-            let parts = match parts {
-                Some(count) => Some(Parts::new(count)),
-                None => None,
-            };
-            assert_eq!(rt; charge(Units::new(units), Weight::new(weight)?), parts);
+            assert_eq!(rt;
+                charge(Units::new(units), Weight::new(weight)?),
+                parts.map(Parts::new)
+            );
         }
         Ok(())
     }

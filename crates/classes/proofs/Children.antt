@@ -7,7 +7,7 @@ use Rattle.std.proofs.lemmas.Bool.Decides.{nat_tests}
 use Rattle.rules.specs.Shape.{Shape, child}
 use Rattle.rules.proofs.Tree.{child_decides}
 use Rattle.classes.specs.Shapes.{child_below}
-use Rattle.classes.specs.Tables.{shape_of, sibling_below}
+use Rattle.classes.specs.Tables.{class_count, shape_of, sibling_below}
 use Rattle.classes.specs.declared.table.ClassTable.{ClassTable}
 use Rattle.classes.proofs.Shapes.{Last, below_last}
 
@@ -63,8 +63,8 @@ pub passed_none : (t : Shape) (node k : ℕ) → passed t node t.count k ≡ fal
 passed_none t node k = grind (arith, nat_tests)
 
 -- it goes on
-pub sibling_is : (t : ClassTable) (node m c : ℕ) → child_below (shape_of t) node m ≡ Some c → m ≤ t.len → sibling_below t c ≡ child_below (shape_of t) node c
+pub sibling_is : (t : ClassTable) (node m c : ℕ) → child_below (shape_of t) node m ≡ Some c → m ≤ class_count t → sibling_below t c ≡ child_below (shape_of t) node c
 sibling_is t node m c at l =
     let low = lower (shape_of t) node m c at in
-    cond-true (ltb c t.len) _ None (lt-ltb c t.len (omega arith))
+    cond-true (ltb c (class_count t)) _ None (lt-ltb c (class_count t) (omega arith))
     ∙ ap (λ p. child_below (shape_of t) p c) ((child_decides (shape_of t) node c).0 (is_child (shape_of t) node m c at)).1

@@ -1,7 +1,6 @@
 mod Plain
 pub mod Shapes
 mod Rows
-mod Start
 pub mod Tables
 mod Growth
 pub mod Children

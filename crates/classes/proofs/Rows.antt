@@ -1,22 +1,11 @@
 -- Classes by name.
-use Rattle.std.proofs.Common.{◌≡◌, ℕ, zero, suc, ◌<◌, true, false, cond, List, is_some, Some, None, Option, sym, refl, ap, ◌∙◌, inl, inr, arith}
+use Rattle.std.proofs.Common.{◌≡◌, ℕ, zero, suc, ◌<◌, false, cond, List, Some, None, sym, refl, ap, ◌∙◌, inl, inr, arith}
 use Rattle.std.specs.Str.{bytes_eq}
 use Rattle.std.proofs.lemmas.Slice.Eq.{bytes_eq-Decides}
-use Rattle.std.proofs.lemmas.Bool.{cases_eq, cases_Bool, eqb-true, eq-eqb, both_ways, cond-true, cond-false}
+use Rattle.std.proofs.lemmas.Bool.{cases_eq, cases_Bool, both_ways, cond-true, cond-false}
 use Rattle.rules.proofs.Tests.{no_test}
-use Rattle.classes.specs.Rows.{name_at, named_below, same}
+use Rattle.classes.specs.Rows.{name_at, named_below}
 use Rattle.classes.specs.declared.class.Class.{Class}
-
--- what the test `same` says
-pub same_is : (x y : Option ℕ) → same x y ≡ true → x ≡ y
-same_is None None e = refl
-same_is None (Some y) e = absurd (both_ways false refl e)
-same_is (Some x) None e = absurd (both_ways false refl e)
-same_is (Some x) (Some y) e = ap Some (eqb-true x y e)
-
-pub is_same : (x y : Option ℕ) → x ≡ y → same x y ≡ true
-is_same None y e = ap (same None) (sym e)
-is_same (Some x) y e = ap (same (Some x)) (sym e) ∙ eq-eqb x x refl
 
 -- class k has another name, or it has that name
 other : (cs : List Class) (w : List ℕ) (k : ℕ) → (name_at cs k ≡ w → ⊥) → bytes_eq (name_at cs k) w ≡ false
@@ -29,13 +18,13 @@ module _ (cs : List Class) (w : List ℕ) where
   none_named (suc n) none = cond-false (bytes_eq (name_at cs n) w) (Some n) _ (other cs w n (none n (omega arith))) ∙ none_named n (λ k l. none k (omega arith))
 
   -- the converse
-  pub named_none : (n : ℕ) → is_some (named_below cs w n) ≡ false → (k : ℕ) → k < n → name_at cs k ≡ w → ⊥
+  pub named_none : (n : ℕ) → named_below cs w n ≡ None → (k : ℕ) → k < n → name_at cs k ≡ w → ⊥
   named_none zero e k l is = omega arith
   named_none (suc n) e k l is = elim (cases_Bool (bytes_eq (name_at cs n) w)) [
-    | inl t ↦ both_ways _ e (ap is_some (cond-true _ (Some n) (named_below cs w n) t))
+    | inl t ↦ let some = cond-true _ (Some n) (named_below cs w n) t in cc
     | inr f ↦ elim (cases_eq k n) [
       | inl z ↦ both_ways _ f ((bytes_eq-Decides (name_at cs n) w).1 (sym (ap (name_at cs) z) ∙ is))
-      | inr z ↦ named_none n (sym (ap is_some (cond-false _ (Some n) (named_below cs w n) f)) ∙ e) k (omega arith) is
+      | inr z ↦ named_none n (sym (cond-false _ (Some n) (named_below cs w n) f) ∙ e) k (omega arith) is
     ]
   ]
 

@@ -1,5 +1,5 @@
 -- The rows of a class table as functions of the class number.
-use Rattle.std.specs.Prelude.{◌≡◌, ℕ, zero, suc, Bool, true, false, cond, List, [], ◌∷◌, Some, None, codes, Option, ◌==◌, slice_index_or, refl}
+use Rattle.std.specs.Prelude.{◌≡◌, ℕ, zero, suc, cond, List, [], ◌∷◌, length, Some, None, codes, Option, slice_index_or, refl}
 use Rattle.std.proofs.Common.{lit≤}
 use Rattle.std.specs.Str.{bytes_eq}
 use Rattle.base.specs.declared.weight.Weight.{Weight}
@@ -10,7 +10,7 @@ use Rattle.classes.specs.declared.name.Name.{Name}
 
 -- the name and the weight of the root
 abbrev pub root_name : Name
-root_name = record { bytes = 114 ∷ 111 ∷ 111 ∷ 116 ∷ 0 ∷ 0 ∷ 0 ∷ 0 ∷ []; len = 4; size = refl; short = lit≤ tt; proper = refl }
+root_name = record { text = record { bytes = codes "root"; spare = 0 ∷ 0 ∷ 0 ∷ 0 ∷ [] }; proper = refl }
 
 abbrev pub root_weight : Weight
 root_weight = record { value = 1; least = lit≤ tt; most = lit≤ tt }
@@ -32,9 +32,9 @@ pub record Alone (c : Class) : Type 0 where
 abbrev pub row : List Class → ℕ → Class
 row cs k = slice_index_or cs k blank
 
--- the shape of the first n rows
-abbrev pub shape : List Class → ℕ → Shape
-shape cs n = record { count = n; parent = λ k. (row cs k).parent }
+-- how the classes hang together
+abbrev pub shape : List Class → Shape
+shape cs = record { count = length cs; parent = λ k. (row cs k).parent }
 
 -- the bytes of the name of class k
 abbrev pub name_at : List Class → ℕ → List ℕ
@@ -44,10 +44,3 @@ name_at cs k = text_of (row cs k).name
 abbrev pub named_below : List Class → List ℕ → ℕ → Option ℕ
 named_below cs w zero = None
 named_below cs w (suc n) = cond (bytes_eq (name_at cs n) w) (Some n) (named_below cs w n)
-
--- the same number, or none both times
-abbrev pub same : Option ℕ → Option ℕ → Bool
-same None None = true
-same None (Some y) = false
-same (Some x) None = false
-same (Some x) (Some y) = x == y

@@ -1,9 +1,9 @@
 //! A tree before it is opened.
 ghost use Rattle.std.specs.Prelude.{◌≡◌, ℕ, ◌≤◌, MatchResult};
 ghost use Rattle.rules.specs.Shape.{Sound};
-ghost use Rattle.classes.specs.Additions.{addition, Grown};
+ghost use Rattle.classes.specs.Additions.{addition, parent_number, Grown};
 ghost use Rattle.classes.specs.Rows.{row, Alone};
-ghost use Rattle.classes.specs.Tables.{shape_of, weight_of, named, Finds};
+ghost use Rattle.classes.specs.Tables.{class_count, shape_of, weight_of, named, Finds};
 
 use crate::name::Name;
 use crate::table::{ClassTable, MAX_CLASSES, MAX_DEPTH};
@@ -21,8 +21,8 @@ impl Draft {
     /// The root alone.
     pub fn new(house: u32) -> Draft
         ensures house { result.house ≡ house }
-        ensures len { result.table.len ≡ 1 }
-        ensures rows { (k : ℕ) → Alone (row result.table.classes k) }
+        ensures len { class_count result.table ≡ 1 }
+        ensures rows { (k : ℕ) → Alone (row result.table.classes.items k) }
     {
         Draft {
             house,
@@ -37,6 +37,16 @@ impl Draft {
             (λ _. (self.new.house ≡ self.old.house) × Grown self.old.table parent weight name.now self.new.table)
             (λ _. self.new ≡ self.old) }
     {
+        self.add_under(Some(parent), weight, name)
+    }
+
+    /// The same, if there is a parent: none is refused as an unknown one, in its turn.
+    pub fn add_under(&mut self, parent: Option<u8>, weight: u32, name: &[u8]) -> Result<u8, Refusal>
+        ensures answer { result ≡ addition self.old.table (parent_number parent) weight name.now }
+        ensures after { MatchResult result
+            (λ _. (self.new.house ≡ self.old.house) × Grown self.old.table (parent_number parent) weight name.now self.new.table)
+            (λ _. self.new ≡ self.old) }
+    {
         if self.table.len() >= MAX_CLASSES {
             return Err(Refusal::TreeFull);
         }
@@ -44,9 +54,8 @@ impl Draft {
         if self.table.find(name.as_bytes()).is_some() {
             return Err(Refusal::NameTaken);
         }
-        let Some(above) = self.table.class(parent) else {
-            return Err(Refusal::UnknownParent);
-        };
+        let parent = parent.ok_or(Refusal::UnknownParent)?;
+        let above = self.table.class(parent).ok_or(Refusal::UnknownParent)?;
         if above.depth >= MAX_DEPTH {
             return Err(Refusal::TooDeep);
         }

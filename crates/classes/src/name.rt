@@ -1,23 +1,17 @@
 //! The name of a class, kept by value.
-ghost use Rattle.std.specs.Prelude.{◌≡◌, ◌≤◌, true, length, take};
+ghost use Rattle.std.specs.Prelude.{◌≡◌, true};
 ghost use Rattle.classes.specs.Words.{is_name};
+
+use arrayvec::ArrayString;
 
 pub mod text;
 
-/// One to eight bytes of a to z and 0 to 9.
-#[derive(Clone, Copy, Debug)]
-pub struct Name {
-    bytes: [u8; 8],
-    len: usize,
-    ghost size: { length bytes ≡ 8 },
-    ghost short: { len ≤ 8 },
-    ghost proper: { is_name (take len bytes) ≡ true },
-}
+/// The most bytes that a name has.
+const MAX_BYTES: usize = 8;
 
-impl Name {
-    /// The name of class 0.
-    pub const ROOT: Name = Name {
-        bytes: [b'r', b'o', b'o', b't', 0, 0, 0, 0],
-        len: 4,
-    };
+/// One to eight bytes of a to z and 0 to 9.
+#[derive(Clone, Copy, Debug, PartialEq, Eq)]
+pub struct Name {
+    text: ArrayString<MAX_BYTES>,
+    ghost proper: { is_name text.bytes ≡ true },
 }

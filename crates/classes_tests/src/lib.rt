@@ -32,6 +32,11 @@ mod tests {
         assert_eq!(rt; draft.add(9, 0, b"Root"), Err(Refusal::BadName));
         assert_eq!(rt; draft.add(9, 0, b"root"), Err(Refusal::NameTaken));
         assert_eq!(rt; draft.add(1, 0, b"film"), Err(Refusal::UnknownParent));
+        assert_eq!(rt; draft.add_under(None, 0, b"Film"), Err(Refusal::BadName));
+        assert_eq!(rt;
+            draft.add_under(None, 0, b"film"),
+            Err(Refusal::UnknownParent)
+        );
         assert_eq!(rt; draft.add(0, 0, b"film"), Err(Refusal::BadWeight));
         assert_eq!(rt; draft.add(0, 17, b"film"), Err(Refusal::BadWeight));
         assert_eq!(rt; draft.add(0, 1, b"film"), Ok(1));

@@ -1,65 +1,175 @@
--- The index that the heaps hold, and its room. Assumes nothing.
-use Rattle.std.proofs.Common.{◌≡◌, ℕ, ◌<◌, List, length, get_or, set, None, sym, ap, ◌∙◌, subst, inl, inr, arith}
-use Rattle.std.proofs.lemmas.List.{get_or-set_same, get_or-set_other, get_or_past}
-use Rattle.std.proofs.lemmas.Bool.{cases_eq, cases_lt}
+-- What the steps on the heaps leave. Assumes nothing.
+use Rattle.std.proofs.Common.{◌≡◌, ℕ, ◌+◌, ◌<◌, List, [], ◌∷◌, ◌++◌, length, get_or, set, None, Option, swap, swap_remove, sym, refl, ap, ◌∙◌, subst, inl, inr, arith}
+use Rattle.std.proofs.lemmas.Grind.{common_steps}
+use Rattle.std.proofs.lemmas.List.{get_or-set_same, get_or-set_other, get_or_default, get_or_past, get_or_read, get_or_append_left, length-append}
+use Rattle.std.proofs.Math.Seq.{get_or-append_seam}
+use Rattle.std.proofs.lemmas.List.Edits.{Swapped, swapped_from_swap, length-swap}
+use Rattle.std.proofs.lemmas.Bool.{cases_lt}
+use Rattle.arrayvec.specs.ArrayVec.{ArrayVec}
+use Rattle.tags.specs.Held.{with}
+use Rattle.tags.specs.Order.{rank}
+use Rattle.tags.specs.declared.number.Number.{Number}
 use Rattle.tags.proofs.Room.{room}
+use Rattle.tags.proofs.Uses.{with_same, with_other}
 use Rattle.heap.specs.declared.heaps.Heaps.{Heaps}
-use Rattle.heap.specs.Index.{pair_at, group_or, group_at, size}
-use Rattle.heap.specs.Keys.{count, keys, Reordered}
-use Rattle.heap.specs.Order.{Ordered}
-use Rattle.heap.specs.Slots.{cell, spot}
-use Rattle.heap.proofs.Index.{Index, Sets}
-use Rattle.heap.proofs.Sifts.{same_order}
+use Rattle.heap.specs.declared.standings.Standing.{Standing}
+use Rattle.heap.specs.Cells.{zero, row, size, cell}
+use Rattle.heap.specs.Index.{pair_of, place_of, pair_at, place_at, group_or, tag_or, group_at, rank_at, exchanged, Index, Puts, Moves}
+use Rattle.heap.specs.Keys.{count, classes, keys}
+use Rattle.heap.proofs.Index.{Sets, one_place, exchange_kept, append_kept, remove_kept}
 
--- what a write to a table leaves, read by F
-pub set_sets : {X : Type 0} (F : X → ℕ) (d : X) (xs : List X) (i : ℕ) (v : X) → i < length xs → Sets (λ k. F (get_or xs k d)) (λ k. F (get_or (set xs i v) k d)) i (F v)
-set_sets F d xs i v l = record {
-  here = ap F (get_or-set_same xs i v d l);
-  else = λ k n. ap F (get_or-set_other xs i k v d n);
-}
+-- what F says of two exchanged values
+exchanged_of : (F f f' : ℕ → ℕ) (i j : ℕ) → Swapped f f' i j → (k : ℕ) → F (f' k) ≡ exchanged (λ p. F (f p)) i j k
+exchanged_of F f f' i j s k = grind (arith, common_steps, s)
+
+-- what is read of a list from which place i has gone, and the last of which has come there
+last_moved : {X : Type 0} (xs : List X) (i n : ℕ) (a d : X) → length xs ≡ n + 1 → (k : ℕ) → k < n → get_or (swap_remove xs i a) k d ≡ get_or (set xs i (get_or xs n d)) k d
+last_moved xs i n a d full k l = grind (arith, common_steps, full, get_or_default xs n a d)
 
 module _ (h : Heaps) where
-  pub index_of : Index (group_at h.pairs) (spot h.slots.places) (size h.lens) (cell h.slots.cells)
-  index_of = record { member = h.member; placed = h.placed; listed = h.listed; found = h.found }
-
   -- only groups below 64 have classes
-  pub group_known : (g i : ℕ) → i < size h.lens g → g < 64
+  pub group_known : (g i : ℕ) → i < count h g → g < 64
   group_known g i l =
       elim (cases_lt g 64) [
         | inl known ↦ known
-        | inr past ↦ let n = h.groups in let e = get_or_past h.lens g 0 (omega arith) in absurd (omega arith)
+        | inr past ↦ let n = h.groups in let e = ap (λ v. length v.items) (get_or_past h.heaps g (record { items = [] }) (omega arith)) in absurd (omega arith)
       ]
 
+  pub class_known : (g i : ℕ) → classes h g i < 64
+  class_known g i = (get_or (row h.heaps g) i zero).small
+
   -- while a class does not stand, no heap is full
-  pub heap_room : (g k : ℕ) → g < 64 → k < 64 → pair_at h.pairs k ≡ None → size h.lens g < 64
-  heap_room g k gl kl free =
-      room (cell h.slots.cells g) (size h.lens g) k kl
-      (λ i l. h.slots.known g i)
-      (λ i j low high e. let a = h.placed g i (omega arith) in let b = h.placed g j high in let d = ap (spot h.slots.places) e in omega arith)
-      (λ i l e. let a = h.member g i l in let b = ap (group_at h.pairs) e in let d = ap group_or free in omega arith)
+  pub heap_room : (g : ℕ) (k : Number) → pair_at h.standings.rows k.value ≡ None → count h g < 64
+  heap_room g k free =
+      room (classes h g) (count h g) k.value k.small
+      (λ i l. class_known g i)
+      (λ i j low high e. grind (arith, h.index.placed g i, h.index.placed g j))
+      (λ i l e. grind (arith, h.index.placed g i, ap group_or free, group_known g i))
 
--- what stays in one reordering and in the next
-pub reordered_again : (s t u : Heaps) (g : ℕ) → Reordered s t g → Reordered t u g → Reordered s u g
-reordered_again s t u g a b = record {
-  others = λ h i n. b.others h i n ∙ a.others h i n;
-  pairs = b.pairs ∙ a.pairs;
-  lens = b.lens ∙ a.lens;
-}
+  -- the heap of group g is written, which a step finds at q
+  module _ (g q : ℕ) (at : q ≡ g) (ql : q < 64) where
+    known : q < length h.heaps
+    known = let n = h.groups in omega arith
 
-pub count_kept : (s t : Heaps) (g : ℕ) → Reordered s t g → (h : ℕ) → count s h ≡ count t h
-count_kept s t g a h = ap (λ l. size l h) (sym a.lens)
+    pub row_read : (d : ArrayVec Number) → (get_or h.heaps q d).items ≡ row h.heaps g
+    row_read d = ap (λ v. v.items) (get_or_default h.heaps q d (record { items = [] }) known) ∙ ap (row h.heaps) at
 
-pub count_set : (s t : Heaps) (g n : ℕ) → g < 64 → t.lens ≡ set s.lens g n → (count t g ≡ n) × ((h : ℕ) → (h ≡ g → ⊥) → count t h ≡ count s h)
-count_set s t g n l e = (
-  ap (λ ls. size ls g) e ∙ get_or-set_same s.lens g n 0 (let k = s.groups in omega arith),
-  λ h away. ap (λ ls. size ls h) e ∙ get_or-set_other s.lens g h n 0 away,
-)
+    module _ (v : ArrayVec Number) where
+      pub row_here : row (set h.heaps q v) g ≡ v.items
+      row_here = ap (row (set h.heaps q v)) (sym at) ∙ ap (λ w. w.items) (get_or-set_same h.heaps q v (record { items = [] }) known)
 
--- the heaps are in order if that of group g is and nothing else has changed
-pub all_ordered : (s t : Heaps) (g n : ℕ) → g < 64 → ((h : ℕ) → Ordered (keys s h) (count s h)) → t.lens ≡ set s.lens g n → ((h i : ℕ) → (h ≡ g → ⊥) → i < count s h → keys t h i ≡ keys s h i) → Ordered (keys t g) (count t g) → (h : ℕ) → Ordered (keys t h) (count t h)
-all_ordered s t g n l was lens others here h =
-    elim (cases_eq h g) [
-      | inl same ↦ subst (λ q. Ordered (keys t q) (count t q)) (sym same) here
-      | inr away ↦
-          subst (Ordered (keys t h)) (sym ((count_set s t g n l lens).1 h away)) (same_order (keys s h) (keys t h) (count s h) (was h) (λ i l. others h i away l))
-    ]
+      row_else : (j : ℕ) → (j ≡ g → ⊥) → row (set h.heaps q v) j ≡ row h.heaps j
+      row_else j n = ap (λ w. w.items) (get_or-set_other h.heaps q j v (record { items = [] }) (λ e. n (e ∙ at)))
+
+      pub sizes : Sets (size h.heaps) (size (set h.heaps q v)) g (length v.items)
+      sizes = record { here = ap length row_here; else = λ j n. ap length (row_else j n) }
+
+      pub away : (j k : ℕ) → (j ≡ g → ⊥) → cell (set h.heaps q v) j k ≡ classes h j k
+      away j k n = ap (λ r. (get_or r k zero).value) (row_else j n)
+
+      pub cell_here : (k : ℕ) → cell (set h.heaps q v) g k ≡ (get_or v.items k zero).value
+      cell_here k = ap (λ r. (get_or r k zero).value) row_here
+
+-- class k alone has another pair
+module _ (rows rows' : List (Option Standing)) (k : ℕ) (o : Option Standing) (pairs : pair_at rows' ≡ with (pair_at rows) k (pair_of o)) where
+  groups_put : (g : ℕ) → group_or (pair_of o) ≡ g → Sets (group_at rows) (group_at rows') k g
+  groups_put g group = record {
+    here = ap (λ p. group_or (p k)) pairs ∙ (ap group_or (with_same (pair_at rows) k (pair_of o)) ∙ group);
+    else = λ j n. ap (λ p. group_or (p j)) pairs ∙ ap group_or (with_other (pair_at rows) k (pair_of o) j n);
+  }
+
+  rank_put : (j : ℕ) → (j ≡ k → ⊥) → rank_at rows' j ≡ rank_at rows j
+  rank_put j n = ap (λ p. rank (tag_or (p j)) j) pairs ∙ ap (λ p. rank (tag_or p) j) (with_other (pair_at rows) k (pair_of o) j n)
+
+-- the tables after an exchange of the classes at places i and j of the heap of group g
+pub record Exchanges (h : Heaps) (rows : List (Option Standing)) (heaps : List (ArrayVec Number)) (g i j : ℕ) : Type 0 where
+  pub index : Index (group_at rows) (place_at rows) (size heaps) (cell heaps)
+  pub pairs : pair_at rows ≡ pair_at h.standings.rows
+  pub lens : (q : ℕ) → size heaps q ≡ count h q
+  pub cells : (k : ℕ) → cell heaps g k ≡ exchanged (classes h g) i j k
+  pub ranks : (k : ℕ) → rank_at rows (cell heaps g k) ≡ exchanged (keys h g) i j k
+  pub others : (q k : ℕ) → (q ≡ g → ⊥) → rank_at rows (cell heaps q k) ≡ keys h q k
+
+-- a and b, who stand at i and j then, are told their places
+pub exchange_leaves : (h : Heaps) (g q i j : ℕ) → q ≡ g → q < 64 → i < count h g → j < count h g → (v : ArrayVec Number) → v.items ≡ swap (row h.heaps g) i j → (a b : Number) → a ≡ get_or v.items i a → b ≡ get_or v.items j b → (rows₁ rows' : List (Option Standing)) → Moves h.standings.rows rows₁ a.value i → Moves rows₁ rows' b.value j → Exchanges h rows' (set h.heaps q v) g i j
+exchange_leaves h g q i j at ql il jl v e a b at_i at_j rows₁ rows' one two =
+    let rows = h.standings.rows in
+    let heaps' = set h.heaps q v in
+    let long = ap length e ∙ length-swap (row h.heaps g) i j in
+    let here = cell_here h g q at ql v in
+    let s = swapped_from_swap (row h.heaps g) v.items i j zero il jl e in
+    let cells : Swapped (classes h g) (cell heaps' g) i j = (here i ∙ ap (λ n. n.value) s.0, here j ∙ ap (λ n. n.value) s.1, λ k ni nj. here k ∙ ap (λ n. n.value) (s.2 k ni nj)) in
+    let far = away h g q at ql v in
+    let lens : (p : ℕ) → size heaps' p ≡ count h p = λ p. grind (arith, sizes h g q at ql v, long) in
+    let ea : a.value ≡ cell heaps' g i = ap (λ n. n.value) (get_or_read v.items i a (omega arith) at_i zero) ∙ sym (here i) in
+    let eb : b.value ≡ cell heaps' g j = ap (λ n. n.value) (get_or_read v.items j b (omega arith) at_j zero) ∙ sym (here j) in
+    let ga = ap (group_at rows) (ea ∙ cells.0) ∙ (h.index.placed g j jl).0 in
+    let gb = ap (λ p. group_or (p b.value)) one.pairs ∙ (ap (group_at rows) (eb ∙ cells.1) ∙ (h.index.placed g i il).0) in
+    let gl : g < 64 = omega arith in
+    let told₁ = subst (λ k. Sets (place_at rows) (place_at rows₁) k i) ea (record { here = one.place (omega arith); else = one.places }) in
+    let told₂ = subst (λ k. Sets (place_at rows₁) (place_at rows') k j) eb (record { here = two.place (omega arith); else = two.places }) in
+    let pairs = two.pairs ∙ one.pairs in
+    let ranks = λ (y : ℕ). ap (λ p. rank (tag_or (p y)) y) pairs in
+    record {
+      index = exchange_kept h.index g i j il jl (λ k. ap (λ p. group_or (p k)) pairs) lens cells far told₁ told₂;
+      pairs = pairs;
+      lens = lens;
+      cells = exchanged_of (λ y. y) (classes h g) (cell heaps' g) i j cells;
+      ranks = λ k. ranks (cell heaps' g k) ∙ exchanged_of (rank_at rows) (classes h g) (cell heaps' g) i j cells k;
+      others = λ q k n. ranks (cell heaps' q k) ∙ ap (rank_at rows) (far q k n);
+    }
+
+-- the tables after class k, which did not stand, has come to the end of the heap of group g
+pub record Appends (h : Heaps) (rows : List (Option Standing)) (heaps : List (ArrayVec Number)) : Type 0 where
+  pub index : Index (group_at rows) (place_at rows) (size heaps) (cell heaps)
+  pub ranks : (p i : ℕ) → i < count h p → rank_at rows (cell heaps p i) ≡ keys h p i
+
+pub append_leaves : (h : Heaps) (g q : ℕ) (k : Number) (o : Option Standing) → q ≡ g → q < 64 → group_or (pair_of o) ≡ g → place_of o ≡ count h g → pair_at h.standings.rows k.value ≡ None → (v : ArrayVec Number) → v.items ≡ row h.heaps g ++ k ∷ [] → (rows' : List (Option Standing)) → Puts h.standings.rows rows' k.value o → Appends h rows' (set h.heaps q v)
+append_leaves h g q k o at ql group place free v e rows' put =
+    let rows = h.standings.rows in
+    let heaps' = set h.heaps q v in
+    let s = sizes h g q at ql v in
+    let long = ap length e ∙ length-append (row h.heaps g) (k ∷ []) in
+    let cells = λ (i : ℕ). cell_here h g q at ql v i ∙ ap (λ r. (get_or r i zero).value) e in
+    let top : cell heaps' g (count h g) ≡ k.value = cells (count h g) ∙ ap (λ c. c.value) (get_or-append_seam (row h.heaps g) k [] zero) in
+    let low : (p i : ℕ) → i < count h p → cell heaps' p i ≡ classes h p i = λ p i l. grind (arith, cells i, get_or_append_left (row h.heaps g) (k ∷ []) zero i, away h g q at ql v p i) in
+    let free_group = ap group_or free in
+    let stood : (p i : ℕ) → i < count h p → classes h p i ≡ k.value → ⊥ = λ p i l c. grind (arith, h.index.placed p i l, free_group, group_known h p i l) in
+    record {
+      index = append_kept h.index g k.value (group_known h) free_group top low (groups_put rows rows' k.value o put.pairs g group) (record { here = put.place ∙ place; else = put.places }) (record { here = s.here ∙ long; else = s.else });
+      ranks = λ p i l. ap (rank_at rows') (low p i l) ∙ rank_put rows rows' k.value o put.pairs (classes h p i) (stood p i l);
+    }
+
+-- the tables after the class at place i of the heap of group g has gone, and the last of the heap has come there
+pub record Removes (h : Heaps) (rows : List (Option Standing)) (heaps : List (ArrayVec Number)) (g i : ℕ) : Type 0 where
+  pub index : Index (group_at rows) (place_at rows) (size heaps) (cell heaps)
+  pub ranks : (k : ℕ) → k < size heaps g → rank_at rows (cell heaps g k) ≡ exchanged (keys h g) i (size heaps g) k
+  pub others : (p k : ℕ) → (p ≡ g → ⊥) → k < count h p → rank_at rows (cell heaps p k) ≡ keys h p k
+
+-- z, the last, is told its new place, and then a is put out
+pub remove_leaves : (h : Heaps) (g q i n : ℕ) → q ≡ g → q < 64 → i < count h g → count h g ≡ n + 1 → (v : ArrayVec Number) (a z : Number) → a ≡ get_or (row h.heaps g) i a → z ≡ get_or (row h.heaps g) n z → v.items ≡ swap_remove (row h.heaps g) i a → (rows₁ rows' : List (Option Standing)) → Moves h.standings.rows rows₁ z.value i → Puts rows₁ rows' a.value None → Removes h rows' (set h.heaps q v) g i
+remove_leaves h g q i n at ql il full v a z goes ends e rows₁ rows' move put =
+    let rows = h.standings.rows in
+    let heaps' = set h.heaps q v in
+    let xs = row h.heaps g in
+    let s = sizes h g q at ql v in
+    let long : length v.items ≡ n = ap length e ∙ grind (arith, common_steps, full) in
+    let counts : Sets (size h.heaps) (size heaps') g n = record { here = s.here ∙ long; else = s.else } in
+    let far = away h g q at ql v in
+    let gone : a.value ≡ classes h g i = ap (λ c. c.value) (get_or_read xs i a il goes zero) in
+    let last : z.value ≡ classes h g n = ap (λ c. c.value) (get_or_read xs n z (omega arith) ends zero) in
+    let item : (k : ℕ) → k < n → cell heaps' g k ≡ (get_or (set xs i (get_or xs n zero)) k zero).value = λ k l. cell_here h g q at ql v k ∙ (ap (λ r. (get_or r k zero).value) e ∙ ap (λ (c : Number). c.value) (last_moved xs i n a zero full k l)) in
+    let here : i < n → cell heaps' g i ≡ classes h g n = λ l. item i l ∙ ap (λ c. c.value) (get_or-set_same xs i (get_or xs n zero) zero il) in
+    let rest : (k : ℕ) → k < n → (k ≡ i → ⊥) → cell heaps' g k ≡ classes h g k = λ k l ne. item k l ∙ ap (λ c. c.value) (get_or-set_other xs i k (get_or xs n zero) zero ne) in
+    let apart : (p k : ℕ) → k < count h p → (p ≡ g → k ≡ i → ⊥) → classes h p k ≡ a.value → ⊥ = λ p k l ne c. let o = one_place h.index p g k i l il (c ∙ gone) in ne o.0 o.1 in
+    let stands = ap (group_at rows) last ∙ (h.index.placed g n (omega arith)).0 in
+    let gl : g < 64 = omega arith in
+    let told : i < n → place_at rows' (classes h g n) ≡ i = λ l. grind (arith, apart g n, put.places, last, move.place) in
+    let places : (j : ℕ) → (j ≡ classes h g i → ⊥) → (j ≡ classes h g n → ⊥) → place_at rows' j ≡ place_at rows j = λ j na nz. grind (arith, gone, last, put.places j, move.places j) in
+    let pairs : pair_at rows' ≡ with (pair_at rows) a.value None = put.pairs ∙ ap (λ f. with f a.value None) move.pairs in
+    let kept = rank_put rows rows' a.value None pairs in
+    record {
+      index = remove_kept h.index g i n full il (subst (λ k. Sets (group_at rows) (group_at rows') k 64) gone (groups_put rows rows' a.value None pairs 64 refl)) counts far here rest told places;
+      ranks = subst (λ m. (k : ℕ) → k < m → rank_at rows' (cell heaps' g k) ≡ exchanged (keys h g) i m k) (sym counts.here) (λ k l. grind (arith, common_steps, here, rest k, kept (classes h g n), kept (classes h g k), apart g n, apart g k));
+      others = λ p k ne l. ap (rank_at rows') (far p k ne) ∙ kept (classes h p k) (apart p k l (λ c _. ne c));
+    }

@@ -1,17 +1,31 @@
--- What the tables say of classes and heaps.
-use Rattle.std.specs.Prelude.{ℕ, Bool, true, cond, List, Some, None, Option, ◌==◌, nat_lt, slice_index, slice_index_or}
+-- Which classes stand, and where.
+use Rattle.std.specs.Prelude.{◌≡◌, ℕ, ◌<◌, cond, List, Some, None, Option, ◌==◌, ◌≢◌, slice_index_or}
 use Rattle.base.specs.declared.units.Parts.{Parts}
-use Rattle.tags.specs.Held.{Held}
+use Rattle.tags.specs.Held.{Held, with}
 use Rattle.tags.specs.Order.{rank}
+use Rattle.heap.specs.declared.standings.Standing.{Standing}
+
+-- where class k stands
+abbrev pub standing : List (Option Standing) → ℕ → Option Standing
+standing rows k = slice_index_or rows k None
+
+-- the pair of a class that stands
+abbrev pub pair_of : Option Standing → Option (ℕ × Parts)
+pair_of None = None
+pair_of (Some s) = Some (s.group.value, s.tag)
+
+-- its place; 0 where it does not stand
+abbrev pub place_of : Option Standing → ℕ
+place_of None = 0
+place_of (Some s) = s.place
 
 -- the pair of class k
-abbrev pub pair_at : List (Option (ℕ × Parts)) → Held
-pair_at pairs k = slice_index_or pairs k None
+abbrev pub pair_at : List (Option Standing) → Held
+pair_at rows k = pair_of (standing rows k)
 
--- a pair is of a group below 64
-abbrev pub fits : Option (ℕ × Parts) → Bool
-fits None = true
-fits (Some p) = nat_lt p.0 64
+-- the place of class k
+abbrev pub place_at : List (Option Standing) → ℕ → ℕ
+place_at rows k = place_of (standing rows k)
 
 -- the group of a pair; 64, which is none, where there is no pair
 abbrev pub group_or : Option (ℕ × Parts) → ℕ
@@ -24,17 +38,32 @@ tag_or None = record { 0 = 0 }
 tag_or (Some p) = p.1
 
 -- the group that class k stands in
-abbrev pub group_at : List (Option (ℕ × Parts)) → ℕ → ℕ
-group_at pairs k = group_or (pair_at pairs k)
+abbrev pub group_at : List (Option Standing) → ℕ → ℕ
+group_at rows k = group_or (pair_at rows k)
 
 -- the rank of class k
-abbrev pub rank_at : List (Option (ℕ × Parts)) → ℕ → ℕ
-rank_at pairs k = rank (tag_or (pair_at pairs k)) k
+abbrev pub rank_at : List (Option Standing) → ℕ → ℕ
+rank_at rows k = rank (tag_or (pair_at rows k)) k
 
--- how many classes stand in group g
-abbrev pub size : List ℕ → ℕ → ℕ
-size lens g = slice_index lens g
+-- class k alone now stands as o says
+pub record Puts (rows rows' : List (Option Standing)) (k : ℕ) (o : Option Standing) : Type 0 where
+  pub pairs : pair_at rows' ≡ with (pair_at rows) k (pair_of o)
+  pub place : place_at rows' k ≡ place_of o
+  pub places : (j : ℕ) → (j ≢ k) → place_at rows' j ≡ place_at rows j
+
+-- class k, if it stands, is now at place i, and nothing else has changed
+pub record Moves (rows rows' : List (Option Standing)) (k i : ℕ) : Type 0 where
+  pub pairs : pair_at rows' ≡ pair_at rows
+  pub place : group_at rows k < 64 → place_at rows' k ≡ i
+  pub places : (j : ℕ) → (j ≢ k) → place_at rows' j ≡ place_at rows j
 
 -- f with its values at i and j exchanged
 abbrev pub exchanged : (ℕ → ℕ) → ℕ → ℕ → ℕ → ℕ
 exchanged f i j k = cond (k == i) (f j) (cond (k == j) (f i) (f k))
+
+-- the heaps list each class that stands once, and nothing else. grp: the group of each class, 64 for none; spot: its place; len: how many stand in each group; cell: who stands at each place
+pub record Index (grp spot len : ℕ → ℕ) (cell : ℕ → ℕ → ℕ) : Type 0 where
+  -- who is at a used place of the heap of a group stands in that group, at that place
+  pub placed : (g i : ℕ) → i < len g → (grp (cell g i) ≡ g) × (spot (cell g i) ≡ i)
+  -- who stands is found at its place
+  pub found : (k : ℕ) → grp k < 64 → (spot k < len (grp k)) × (cell (grp k) (spot k) ≡ k)

@@ -1,4 +1,4 @@
+pub mod Cells
 pub mod Index
 pub mod Keys
 pub mod Order
-pub mod Slots

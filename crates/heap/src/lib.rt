@@ -2,7 +2,7 @@
 #![tactic(auto)]
 
 mod heaps;
-mod slots;
+mod standings;
 mod store;
 
 pub use crate::store::HeapStore;

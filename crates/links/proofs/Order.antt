@@ -1,8 +1,9 @@
 -- Outages in order: the last one's end, and one more behind it.
-use Rattle.std.proofs.Common.{◌≡◌, ℕ, ◌+◌, ◌-◌, ◌<◌, ◌≤◌, true, ltb, leb, List, [], ◌∷◌, ◌++◌, length, get_or, take, set, refl, arith}
+use Rattle.std.proofs.Common.{◌≡◌, ℕ, ◌-◌, ◌<◌, ◌≤◌, true, ltb, leb, List, [], ◌∷◌, ◌++◌, length, get_or, Some, None, Option, MatchOption, sym, refl, ap, ◌∙◌, arith, Bor}
+use Rattle.std.specs.List.{HoldsAt}
 use native.Mathlib.Numerals.{unary_clauses}
-use Rattle.std.proofs.lemmas.List.{length-take-le, take_more_set}
-use Rattle.std.proofs.lemmas.Bool.{and_parts, leb-true, ltb-true}
+use Rattle.std.proofs.lemmas.List.{nil_from_length}
+use Rattle.std.proofs.lemmas.Bool.{and_parts, leb-true}
 use Rattle.links.specs.declared.outage.Outage.{Outage}
 use Rattle.links.specs.Outages.{ending, fits, in_order, last_end}
 
@@ -24,21 +25,17 @@ order_more from (x ∷ os) o t h =
     let c = and_parts (leb (ending x) 4294967295) _ b.1 in
     rw (a.0, b.0, c.0) (order_more (ending x) os o c.1 h)
 
+-- outages with one more that fits behind them stand in order
+pub one_more : (os xs : List Outage) (o : Outage) → xs ≡ os ++ o ∷ [] → in_order 0 os ≡ true → fits os o ≡ true → in_order 0 xs ≡ true
+one_more os xs o e t f = rw e (order_more 0 os o t (and_parts _ _ f).1)
+
 -- the last outage's end, read at its place
 pub last_read : (from : ℕ) (os : List Outage) (d : Outage) → 0 < length os → last_end from os ≡ ending (get_or os (length os - 1) d)
 last_read from [] d h = absurd (omega arith)
 last_read from (o ∷ []) d h = refl
 last_read from (o ∷ (p ∷ os)) d h = simp unary_clauses (simp unary_clauses at (last_read (ending o) (p ∷ os) d (omega arith)))
 
--- a table of 16 with an outage that fits behind those in use
-pub record Stored (table : List Outage) (used : ℕ) (o : Outage) : Type 0 where
-  pub free : used < 16
-  pub listed : take (used + 1) (set table used o) ≡ take used table ++ o ∷ []
-  pub sorted : in_order 0 (take (used + 1) (set table used o)) ≡ true
-
-pub stored : (table : List Outage) (used : ℕ) (o : Outage) → length table ≡ 16 → used ≤ 16 → in_order 0 (take used table) ≡ true → fits (take used table) o ≡ true → Stored table used o
-stored table used o size few t f =
-    let both = and_parts (ltb (length (take used table)) 16) _ f in
-    let free : used < 16 = omega (arith, ltb-true _ _ both.0, length-take-le used table (omega arith)) in
-    let listed = take_more_set table used o (omega arith) in
-    record { free = free; listed = listed; sorted = rw listed (order_more 0 (take used table) o t both.1) }
+-- the last outage that is read, if there is one, ends where the outages do
+pub last_at : (os xs : List Outage) (o : Option (Bor Outage)) → xs ≡ os → MatchOption o (length xs ≤ 0) (λ x. (0 < length xs) × HoldsAt (λ y. x.now ≡ y) xs (length xs - 1)) → MatchOption o (last_end 0 os ≡ 0) (λ x. last_end 0 os ≡ ending x.now)
+last_at os xs None e h = ap (last_end 0) (sym e ∙ nil_from_length xs (omega (arith, h)))
+last_at os xs (Some x) e h = ap (last_end 0) (sym e) ∙ last_read 0 xs x.now h.0 ∙ ap ending (sym (h.1 x.now))

@@ -1,8 +1,8 @@
 -- The outages that a table holds.
-use Rattle.std.specs.Prelude.{List, take}
+use Rattle.std.specs.Prelude.{List}
 use Rattle.links.specs.declared.outage.Outage.{Outage}
 use Rattle.links.specs.declared.outages.Outages.{Outages}
 
 -- the earliest first
 abbrev pub listed : Outages → List Outage
-listed s = take s.used s.table
+listed s = s.list.items

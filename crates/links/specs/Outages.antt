@@ -1,5 +1,6 @@
 -- What outages cover, and which lists of them a link takes.
-use Rattle.std.specs.Prelude.{ℕ, ◌+◌, Bool, true, false, ◌&&◌, ◌||◌, List, [], ◌∷◌, length, nat_le, nat_lt}
+use Rattle.std.specs.Prelude.{ℕ, ◌+◌, Bool, true, ◌&&◌, List, [], ◌∷◌, length, nat_le, nat_lt}
+use Rattle.std.specs.List.{list_any}
 use Rattle.links.specs.declared.outage.Outage.{Outage}
 
 -- that many draws from that count on
@@ -16,8 +17,7 @@ covers o k = nat_le o.offset k && nat_lt k (ending o)
 
 -- .. or into one of the outages
 abbrev pub covered : List Outage → ℕ → Bool
-covered [] k = false
-covered (o ∷ os) k = covers o k || covered os k
+covered os k = list_any (λ o. covers o k) os
 
 -- the outages stand in order from a count on: none is empty, none begins before the one before it ends, and all end within 32 bits
 abbrev pub in_order : ℕ → List Outage → Bool

@@ -21,7 +21,7 @@ impl FixedLink {
     pub fn new(rate: u32) -> Result<FixedLink, Refusal>
         ensures { MatchResult result (λ l. (l.rate ≡ rate) × (l.done.0 ≡ 0)) (λ e. (e ≡ Refusal.BadRate) × ((rate < 1) ⊎ (65535 < rate))) }
     {
-        if rate < 1 || rate > 65_535 {
+        if !(1..=65_535).contains(&rate) {
             return Err(Refusal::BadRate);
         }
         Ok(FixedLink {

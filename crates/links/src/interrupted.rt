@@ -98,11 +98,7 @@ mod tests {
             (4_294_967_295, 0, true),
             (4_294_967_295, 1, true),
         ] {
-            let refusal = if refused {
-                Some(Refusal::BadOutage)
-            } else {
-                None
-            };
+            let refusal = refused.then_some(Refusal::BadOutage);
             assert_eq!(rt; link.add_outage(offset, length).err(), refusal);
         }
         Ok(())

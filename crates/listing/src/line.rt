@@ -3,10 +3,9 @@ use base::refusal::Refusal;
 use base::units::{Parts, Units};
 use classes::name::Name;
 
-/// What came of an event: a refusal, an accepted submission, a turn with its class, cost and start tag, or the work of a pulse or a closing.
+/// What came of an event that was not refused: an accepted submission, a turn with its class, cost and start tag, or the work of a pulse or a closing.
 #[derive(Clone, Copy)]
 pub enum Outcome {
-    Refused(Refusal),
     Accepted,
     Granted { name: Name, cost: u32, start: Parts },
     Charged(Units),
@@ -15,6 +14,12 @@ pub enum Outcome {
 /// An event by its letter with what came of it, or a class with what it was charged.
 #[derive(Clone, Copy)]
 pub enum Line {
-    Event { letter: char, outcome: Outcome },
-    Class { name: Name, charges: Units },
+    Event {
+        letter: char,
+        outcome: Result<Outcome, Refusal>,
+    },
+    Class {
+        name: Name,
+        charges: Units,
+    },
 }

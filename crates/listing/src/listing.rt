@@ -2,9 +2,10 @@
 
 pub mod write;
 
-/// The lines so far. Want of memory is told at the end: `whole` says that there was none.
+use std::alloc::AllocError;
+
+/// The text of the lines so far, or the error that memory was wanting for one of them.
 #[derive(Drop)]
 pub struct Listing {
-    text: String,
-    whole: bool,
+    text: Result<String, AllocError>,
 }

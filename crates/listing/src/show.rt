@@ -1,28 +1,18 @@
 //! How a line is written.
 ghost use Rattle.std.specs.Prelude.{Some};
-ghost use Rattle.listing.specs.Lines.{shown as line_bytes, outcome as outcome_bytes};
+ghost use Rattle.listing.specs.Lines.{shown as line_bytes, answer as answer_bytes};
 
 use crate::line::{Line, Outcome};
 use std::fmt;
 
 impl fmt::Display for Outcome {
-    ghost output = { λ o. Some (outcome_bytes o) };
+    ghost output = { λ o. Some (answer_bytes o) };
 
     fn fmt<W: fmt::Write>(&self, f: &mut fmt::Formatter<W>) -> fmt::Result {
         match *self {
-            Outcome::Refused(refusal) => {
-                let number = refusal.number();
-                write!(f, " {number}")
-            }
             Outcome::Accepted => write!(f, " 0"),
-            Outcome::Granted { name, cost, start } => {
-                let start = start.get();
-                write!(f, " 0 {name} {cost} {start}")
-            }
-            Outcome::Charged(work) => {
-                let work = work.get();
-                write!(f, " 0 {work}")
-            }
+            Outcome::Granted { name, cost, start } => write!(f, " 0 {name} {cost} {start}"),
+            Outcome::Charged(work) => write!(f, " 0 {work}"),
         }
     }
 }
@@ -32,11 +22,15 @@ impl fmt::Display for Line {
 
     fn fmt<W: fmt::Write>(&self, f: &mut fmt::Formatter<W>) -> fmt::Result {
         match *self {
-            Line::Event { letter, outcome } => write!(f, "{letter}{outcome}"),
-            Line::Class { name, charges } => {
-                let charges = charges.get();
-                write!(f, "s {name} {charges}")
-            }
+            Line::Event {
+                letter,
+                outcome: Ok(outcome),
+            } => write!(f, "{letter}{outcome}"),
+            Line::Event {
+                letter,
+                outcome: Err(refusal),
+            } => write!(f, "{letter} {}", refusal.number()),
+            Line::Class { name, charges } => write!(f, "s {name} {charges}"),
         }
     }
 }

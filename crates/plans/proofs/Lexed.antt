@@ -1,5 +1,5 @@
 -- Which line some bytes are, and that no other is.
-use Rattle.std.proofs.Common.{◌≡◌, ℕ, ◌<◌, List, [], ◌∷◌, ◌++◌, length, get_or, sym, refl, ap, ◌∙◌, subst, arith}
+use Rattle.std.proofs.Common.{◌≡◌, ℕ, ◌<◌, List, [], ◌∷◌, ◌++◌, sym, refl, ◌∙◌, subst, arith}
 use Rattle.std.proofs.lemmas.Fmt.{digits_decimal}
 use Rattle.std.proofs.ByRecursion.{All-append, All-from_get_or}
 use Rattle.std.proofs.lemmas.Str.Parse.{digit_at}
@@ -9,11 +9,6 @@ use Rattle.text.proofs.Numbers.{own}
 use Rattle.plans.specs.declared.line.Line.{Line}
 use Rattle.plans.specs.declared.line.Line.TheVariants.{Link, Outage, Item}
 use Rattle.plans.specs.Lines.{fields, initial, Misformed, Proper, written}
-
-pub single : (w : List ℕ) (k : ℕ) → length w ≡ 1 → k ≡ get_or w 0 0 → w ≡ k ∷ []
-single [] k h e = absurd (omega arith)
-single (x ∷ []) k h e = ap (λ y. y ∷ []) (sym e)
-single (x ∷ y ∷ w) k h e = absurd (omega arith)
 
 -- what holds a byte is not free of it
 pub not_free : (b : ℕ) (xs us : List ℕ) → Free b (xs ++ b ∷ us) → ⊥

@@ -1,5 +1,6 @@
 -- A reader that goes over an input line by line.
 use Rattle.std.proofs.Common.{◌≡◌, ℕ, ◌+◌, ◌<◌, ◌≤◌, List, [], ◌∷◌, ◌++◌, length, Some, Ok, Err, Result, sym, refl, ap, ◌∙◌, subst, append_assoc, arith, length-append}
+use Rattle.links.specs.Listed.{listed}
 use Rattle.base.specs.declared.refusal.Refusal.{Refusal}
 use Rattle.base.specs.declared.refusal.Refusal.TheVariants.{BadLine}
 use Rattle.std.proofs.ByRecursion.{All-push}
@@ -9,18 +10,17 @@ use Rattle.plans.specs.declared.fault.Wrong.TheVariants.{Refused}
 use Rattle.plans.specs.declared.line.Line.{Line}
 use Rattle.plans.specs.declared.read.Plan.{Plan}
 use Rattle.plans.specs.declared.stage.Stage.{Stage}
-use Rattle.plans.specs.declared.stage.Stage.TheVariants.{Complete}
 use Rattle.plans.specs.Inputs.{Begins, Planned, Told, misformed, refused, unfinished, at_line, ended, missing, next, onward}
 use Rattle.plans.specs.Lines.{Misformed, Proper, written}
-use Rattle.plans.specs.Readings.{Reading, taken}
-use Rattle.plans.specs.Stages.{reading, Untouched}
+use Rattle.plans.specs.Links.{New}
+use Rattle.plans.specs.Readings.{Reading, complete, taken}
+use Rattle.plans.specs.Stages.{reading}
 
 -- some lines are read, and the stage is what they set up
 pub record Sofar (bs : List ℕ) (stage : Stage) (number : ℕ) (rest : List ℕ) : Type 0 where
   pub lines : List Line
   pub begins : Begins bs lines (reading stage) rest
   pub count : number ≡ length lines + 1
-  pub untouched : Untouched stage
   pub near : number + length rest ≤ length bs + 1
 
 onward_more : (r : Result Reading Refusal) (ls : List Line) (l : Line) → onward r (ls ++ l ∷ []) ≡ next (onward r ls) l
@@ -40,14 +40,13 @@ begins_more bs ls q p l rest more old cut proper took =
       stands = onward_more _ ls l ∙ ap (λ r. next r l) old.stands ∙ took;
     }
 
-pub one_more : (bs : List ℕ) (s t : Stage) (number : ℕ) (l : Line) (rest more : List ℕ) → Sofar bs s number rest → rest ≡ written l ++ 10 ∷ more → Proper l → Untouched t → taken (reading s) l ≡ Ok (reading t) → Sofar bs t (number + 1) more
-one_more bs s t number l rest more old cut proper untouched took =
+pub one_more : (bs : List ℕ) (s t : Stage) (number : ℕ) (l : Line) (rest more : List ℕ) → Sofar bs s number rest → rest ≡ written l ++ 10 ∷ more → Proper l → taken (reading s) l ≡ Ok (reading t) → Sofar bs t (number + 1) more
+one_more bs s t number l rest more old cut proper took =
     let near = old.near in
     record {
       lines = old.lines ++ l ∷ [];
       begins = begins_more bs old.lines (reading s) (reading t) l rest more old.begins cut proper took;
       count = omega (arith, length_push old.lines l, old.count);
-      untouched = untouched;
       near = omega (arith, ap length cut ∙ length-append (written l) (10 ∷ more));
     }
 
@@ -69,6 +68,5 @@ module _ (bs : List ℕ) (stage : Stage) (number : ℕ) (rest : List ℕ) (sofar
   pub told_unfinished : (w : Wrong) → length rest ≡ 0 → missing (reading stage) ≡ Some w → Told bs (record { line = number; wrong = w })
   told_unfinished w none lacks = told w (unfinished sofar.lines (reading stage) w (at_end none) lacks)
 
-  pub planned : (p : Plan) → length rest ≡ 0 → stage ≡ Complete p.link p.cost → Planned bs p
-  planned p none is =
-      (sofar.lines, subst (λ s. Begins bs sofar.lines (reading s) []) is (at_end none), subst Untouched is sofar.untouched)
+  pub planned : (p : Plan) → length rest ≡ 0 → reading stage ≡ complete p.link.below.rate (listed p.link.outages) p.cost → New p.link → Planned bs p
+  planned p none is new = (sofar.lines, subst (λ q. Begins bs sofar.lines q []) is (at_end none), new)

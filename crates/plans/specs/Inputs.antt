@@ -11,7 +11,7 @@ use Rattle.plans.specs.declared.line.Line.{Line}
 use Rattle.plans.specs.declared.read.Plan.{Plan}
 use Rattle.plans.specs.Lines.{Misformed, Proper, written}
 use Rattle.plans.specs.Readings.{Reading, start, linked, complete, taken}
-use Rattle.plans.specs.Stages.{New}
+use Rattle.plans.specs.Links.{New}
 
 -- the bytes of some lines, each with its line end
 abbrev pub ended : List Line → List ℕ

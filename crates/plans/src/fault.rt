@@ -35,6 +35,7 @@ impl Wrong {
 
 impl Fault {
     /// The fault of a line that is refused.
+    // no `From`: it takes the line too
     pub(crate) fn refused(line: usize, refusal: Refusal) -> Fault
         ensures { result ≡ record { line = line; wrong = Wrong.Refused refusal } }
     {

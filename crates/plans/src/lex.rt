@@ -1,19 +1,9 @@
 //! Reading a line.
-ghost use Rattle.std.specs.Prelude.{◌≡◌, ℕ, [], ◌∷◌, ◌++◌, MatchOption, ◌≢◌};
+ghost use Rattle.std.specs.Prelude.{◌≡◌, ◌∷◌, ◌++◌, MatchOption};
 ghost use Rattle.plans.specs.Lines.{Formed, Misformed, Proper, Reads, written};
 
 use crate::line::Line;
-use text::word::{cut, number};
-
-/// The word as the one letter that it is.
-fn letter(word: &[u8]) -> Option<char>
-    ensures { MatchOption result ((k : ℕ) → word.now ≢ k ∷ []) (λ k. word.now ≡ k ∷ []) }
-{
-    match word {
-        [byte] => Some(char::from(*byte)),
-        _ => None,
-    }
-}
+use text::word::{cut, letter, number};
 
 /// The line that begins with the letter, from what stands behind it.
 fn form(letter: char, fields: &[u8]) -> Option<Line>

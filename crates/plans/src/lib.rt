@@ -4,5 +4,6 @@
 pub mod fault;
 pub mod lex;
 pub mod line;
+pub mod link;
 pub mod read;
 pub mod stage;

@@ -1,7 +1,7 @@
 //! Reading an input.
 ghost use Rattle.plans.specs.Inputs.{Judged};
 
-use crate::fault::{Fault, Wrong};
+use crate::fault::Fault;
 use crate::lex::first_line;
 use crate::stage::Stage;
 use base::refusal::Refusal;
@@ -21,27 +21,18 @@ pub fn read(input: &[u8]) -> Result<Plan, Fault>
 {
     let mut stage = Stage::Start;
     let mut rest = input;
+    // counted by hand: behind the last line it is the number of the one that is missing
     let mut number = 1;
     while !rest.is_empty() {
-        let Some((line, more)) = first_line(rest) else {
-            return Err(Fault::refused(number, Refusal::BadLine));
-        };
-        stage = match stage.take(line) {
-            Ok(next) => next,
-            Err(refusal) => return Err(Fault::refused(number, refusal)),
-        };
+        let (line, more) = first_line(rest).ok_or(Fault::refused(number, Refusal::BadLine))?;
+        stage = stage
+            .take(line)
+            .map_err(|refusal| Fault::refused(number, refusal))?;
         rest = more;
         number += 1;
     }
-    match stage {
-        Stage::Start => Err(Fault {
-            line: number,
-            wrong: Wrong::NoRate,
-        }),
-        Stage::Linked(_) => Err(Fault {
-            line: number,
-            wrong: Wrong::NoItem,
-        }),
-        Stage::Complete(link, cost) => Ok(Plan { link, cost }),
-    }
+    stage.plan().map_err(|wrong| Fault {
+        line: number,
+        wrong,
+    })
 }

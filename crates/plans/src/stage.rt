@@ -1,9 +1,15 @@
 //! What an input has set up, line by line.
-ghost use Rattle.std.specs.Prelude.{◌≡◌, Ok, Err, MatchResult};
-ghost use Rattle.plans.specs.Stages.{reading, standing, New, Untouched};
-ghost use Rattle.plans.specs.Readings.{start, taken};
+ghost use Rattle.std.specs.Prelude.{◌≡◌, Some, Ok, Err, MatchResult};
+ghost use Rattle.links.specs.Listed.{listed};
+ghost use Rattle.plans.specs.Inputs.{missing};
+ghost use Rattle.plans.specs.Links.{New};
+ghost use Rattle.plans.specs.Readings.{complete, taken};
+ghost use Rattle.plans.specs.Stages.{reading};
 
+use crate::fault::Wrong;
 use crate::line::Line;
+use crate::link::NewLink;
+use crate::read::Plan;
 use base::refusal::Refusal;
 use links::fixed::FixedLink;
 use links::interrupted::Interrupted;
@@ -12,54 +18,49 @@ use links::interrupted::Interrupted;
 #[derive(Drop)]
 pub(crate) enum Stage {
     Start,
-    Linked(Interrupted<FixedLink>),
-    Complete(Interrupted<FixedLink>, u32),
+    Linked(NewLink),
+    Complete(NewLink, u32),
 }
 
 impl Stage {
-    /// What stands after one line more, or why the line is refused.
+    /// What stands after one line more, or why the line is refused: the first gives the rate, a later one adds an outage,
+    /// and the last gives the item.
     pub(crate) fn take(self, line: Line) -> Result<Stage, Refusal>
-        requires { Untouched self }
-        ensures { MatchResult result (λ s. Untouched s × (taken (reading self) line ≡ Ok (reading s))) (λ e. taken (reading self) line ≡ Err e) }
+        ensures { MatchResult result (λ s. taken (reading self) line ≡ Ok (reading s)) (λ e. taken (reading self) line ≡ Err e) }
+    {
+        // a match, and no closures: stage and line together are a closed set of cases
+        match (self, line) {
+            (Stage::Start, Line::Link { rate }) => {
+                let link = Interrupted::new(FixedLink::new(rate)?);
+                Ok(Stage::Linked(NewLink { link }))
+            }
+            (Stage::Linked(mut new), Line::Outage { offset, length }) => {
+                new.link.add_outage(offset, length)?;
+                Ok(Stage::Linked(new))
+            }
+            (Stage::Linked(new), Line::Item { cost }) => {
+                if !(1..=65_535).contains(&cost) {
+                    return Err(Refusal::BadCost);
+                }
+                Ok(Stage::Complete(new, cost))
+            }
+            _ => Err(Refusal::OutOfPlace),
+        }
+    }
+
+    /// What is set up behind the last line, or what is missing there.
+    pub(crate) fn plan(self) -> Result<Plan, Wrong>
+        ensures { MatchResult result
+            (λ p. (reading self ≡ complete p.link.below.rate (listed p.link.outages) p.cost) × New p.link)
+            (λ w. missing (reading self) ≡ Some w) }
     {
         match self {
-            Stage::Start => first(line),
-            Stage::Linked(link) => next(link, line),
-            Stage::Complete(_, _) => Err(Refusal::OutOfPlace),
-        }
-    }
-}
-
-/// The first line gives the rate.
-fn first(line: Line) -> Result<Stage, Refusal>
-    ensures { MatchResult result (λ s. Untouched s × (taken start line ≡ Ok (reading s))) (λ e. taken start line ≡ Err e) }
-{
-    match line {
-        Line::Link { rate } => {
-            let link = FixedLink::new(rate)?;
-            Ok(Stage::Linked(Interrupted::new(link)))
-        }
-        Line::Outage { .. } | Line::Item { .. } => Err(Refusal::OutOfPlace),
-    }
-}
-
-/// A later line adds an outage, or gives the item.
-fn next(link: Interrupted<FixedLink>, line: Line) -> Result<Stage, Refusal>
-    requires { New link }
-    ensures { MatchResult result (λ s. Untouched s × (taken (standing link) line ≡ Ok (reading s))) (λ e. taken (standing link) line ≡ Err e) }
-{
-    let mut link = link;
-    match line {
-        Line::Link { .. } => Err(Refusal::OutOfPlace),
-        Line::Outage { offset, length } => {
-            link.add_outage(offset, length)?;
-            Ok(Stage::Linked(link))
-        }
-        Line::Item { cost } => {
-            if cost < 1 || cost > 65_535 {
-                return Err(Refusal::BadCost);
-            }
-            Ok(Stage::Complete(link, cost))
+            Stage::Start => Err(Wrong::NoRate),
+            Stage::Linked(_) => Err(Wrong::NoItem),
+            Stage::Complete(new, cost) => Ok(Plan {
+                link: new.link,
+                cost,
+            }),
         }
     }
 }

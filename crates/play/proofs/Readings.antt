@@ -6,26 +6,21 @@ use Rattle.base.specs.declared.units.Parts.{Parts}
 use Rattle.classes.specs.declared.name.Name.{Name}
 use Rattle.classes.specs.declared.table.ClassTable.{ClassTable}
 use Rattle.classes.specs.Names.{text_of}
-use Rattle.classes.specs.Tables.{named, name_of, name_by}
+use Rattle.classes.specs.Tables.{class_count, named, name_of, name_by}
 use Rattle.rules.specs.Rules.{submit}
 use Rattle.rules.proofs.Tests.{not_some, some_same}
 use Rattle.trace.specs.Makings.{numbered}
 
--- 64 is the number of a name that no class has
-numbered_or : (x : Option ℕ) → unwrap_or x 64 ≡ numbered x
-numbered_or None = refl
-numbered_or (Some k) = refl
-
--- the call of a submission
-pub submits : {I : Type 0} (table t : ClassTable) (x : Option ℕ) (class : ℕ) (bytes name : List ℕ) (item new : I) → class ≡ unwrap_or x 64 → x ≡ named table bytes → bytes ≡ name → table ≡ t → item ≡ new →
-    submit class item ≡ submit (numbered (named t name)) new
-submits table t x class bytes name item new a b d e i =
-    ap (λ k. submit k item) (a ∙ numbered_or x ∙ ap numbered b ∙ ap (λ z. numbered (named table z)) d ∙ ap (λ z. numbered (named z name)) e) ∙ ap (submit (numbered (named t name))) i
+-- the call of a submission, by what its name was found to be
+pub submits : {I : Type 0} (table t : ClassTable) (x : Option ℕ) (bytes name : List ℕ) (item new : I) → named table bytes ≡ x → bytes ≡ name → table ≡ t → item ≡ new →
+    submit (numbered x) item ≡ submit (numbered (named t name)) new
+submits table t x bytes name item new b d e i =
+    ap (λ k. submit (numbered k) item) (sym b ∙ ap (named table) d ∙ ap (λ z. named z name) e) ∙ ap (submit (numbered (named t name))) i
 
 -- the name of a class
-pub name_is : (t : ClassTable) (k : ℕ) (r : Option Name) (name or : Name) → option_map text_of r ≡ name_by t k → name ≡ unwrap_or r or → k < t.len → text_of name ≡ name_of t k
-name_is t k None name or by is lt = absurd (not_some (by ∙ ap (λ b. cond b (Some (name_of t k)) None) (lt-ltb k t.len lt)))
-name_is t k (Some x) name or by is lt = ap text_of is ∙ some_same (by ∙ ap (λ b. cond b (Some (name_of t k)) None) (lt-ltb k t.len lt))
+pub name_is : (t : ClassTable) (k : ℕ) (r : Option Name) (name or : Name) → option_map text_of r ≡ name_by t k → name ≡ unwrap_or r or → k < (class_count t) → text_of name ≡ name_of t k
+name_is t k None name or by is lt = absurd (not_some (by ∙ ap (λ b. cond b (Some (name_of t k)) None) (lt-ltb k (class_count t) lt)))
+name_is t k (Some x) name or by is lt = ap text_of is ∙ some_same (by ∙ ap (λ b. cond b (Some (name_of t k)) None) (lt-ltb k (class_count t) lt))
 
 -- its start tag
 pub start_is : (k len : ℕ) (x zero or start : Parts) (r : Option Parts) → r ≡ cond (ltb k len) (Some x) None → (k ≡ 0 → r ≡ Some zero) → zero.0 ≡ 0 → start ≡ unwrap_or r or → k < len → cond (eqb k 0) 0 x.0 ≡ start.0

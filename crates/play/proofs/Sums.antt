@@ -5,7 +5,7 @@ use Rattle.base.specs.declared.units.Units.{Units}
 use Rattle.classes.specs.declared.name.Name.{Name}
 use Rattle.classes.specs.declared.table.ClassTable.{ClassTable}
 use Rattle.classes.specs.Names.{text_of}
-use Rattle.classes.specs.Tables.{name_of}
+use Rattle.classes.specs.Tables.{class_count, name_of}
 use Rattle.listing.specs.declared.line.Line.TheVariants.{Class}
 use Rattle.listing.specs.declared.listing.Listing.{Listing}
 use Rattle.listing.specs.Lines.{ended}
@@ -21,5 +21,5 @@ sums_more t charged k l m n name units named is before more bs z =
     (subst (λ x. Holds n (bs ++ (sums t charged k ++ x))) same (subst (Holds n) (append_assoc bs (sums t charged k) (ended (Class name units))) (more (bs ++ sums t charged k) (before bs z))))
 
 -- the same classes with the same charges
-pub sums_same : (t t' : ClassTable) (f g : ℕ → ℕ) → t ≡ t' → ((k : ℕ) → f k ≡ g k) → sums t f t.len ≡ sums t' g t'.len
-sums_same t t' f g e alike = ap (λ t. sums t f t.len) e ∙ ap (λ f. sums t' f t'.len) (fun_ext {f = f} {g = g} alike)
+pub sums_same : (t t' : ClassTable) (f g : ℕ → ℕ) → t ≡ t' → ((k : ℕ) → f k ≡ g k) → sums t f (class_count t) ≡ sums t' g (class_count t')
+sums_same t t' f g e alike = ap (λ t. sums t f (class_count t)) e ∙ ap (λ f. sums t' f (class_count t')) (fun_ext {f = f} {g = g} alike)

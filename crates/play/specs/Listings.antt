@@ -2,7 +2,7 @@
 use Rattle.std.specs.Prelude.{◌≡◌, ℕ, zero, suc, true, List, [], ◌∷◌, ◌++◌, is_some, None, vec_items, codes, decimal}
 use Rattle.classes.specs.declared.draft.Draft.{Draft}
 use Rattle.classes.specs.declared.table.ClassTable.{ClassTable}
-use Rattle.classes.specs.Tables.{shape_of, name_of}
+use Rattle.classes.specs.Tables.{class_count, shape_of, name_of}
 use Rattle.links.specs.declared.server.Server.{Ghosts as Server}
 use Rattle.rules.specs.Kind.{Kind}
 use Rattle.rules.specs.Laws.{Kept}
@@ -49,7 +49,7 @@ pub record Lists {I S : Type 0} (K : Kind I) (V : Server S) (new : ℕ → I) (p
   pub ends : Ends K V new d.table (opening d places (V.work first)) first es history state server lines
   pub run : Run K (opening d places (V.work first)) history state
   pub lawful : Kept K (opening d places (V.work first)) history state
-  pub whole : listing ≡ lines ++ sums d.table (λ k. charges (shape_of d.table) k history) d.table.len
+  pub whole : listing ≡ lines ++ sums d.table (λ k. charges (shape_of d.table) k history) (class_count d.table)
 
 -- what is printed for the bytes of a trace: the line of its first fault; or the listing of the trace that they write
 pub data Prints (bs : List ℕ) : List ℕ → Type 0 where

@@ -6,6 +6,7 @@ use base::units::Units;
 pub(crate) mod adding;
 
 /// The units charged to each class number.
+// A table of its own: the classes are the tree's, and no length stands beside the units.
 #[derive(Drop)]
 pub(crate) struct Charges {
     units: [Units; 64],

@@ -9,6 +9,7 @@ use std::alloc::{AllocError, Global};
 use text::kind::Kind;
 use trace::error::ReadError;
 use trace::reader::read;
+use trace::trace::Trace;
 
 /// The places of the shelf.
 const PLACES: usize = 256;
@@ -18,23 +19,28 @@ pub fn play(heap: Global, text: &[u8]) -> Result<String, AllocError>
     ensures { IfOk result (λ out. Prints text.now (string_bytes out)) }
 {
     match read(heap, text) {
-        Ok(trace) => {
-            let kind = trace.kind;
-            let events = trace.events.as_slice();
+        Ok(
+            Trace {
+                kind,
+                draft,
+                link,
+                events,
+            },
+        ) => {
+            let events = events.as_slice();
+            // The array is made at each kind: nothing bounds its size at a type parameter, and lending it as a slice asks for a bound.
             match kind {
                 Kind::Quantum => {
                     let mut places = [Quantum::of_cost(0); PLACES];
-                    list(heap, trace.draft, trace.link, events, &mut places)
+                    list(heap, draft, link, events, &mut places)
                 }
                 Kind::Block => {
                     let mut places = [Block::of_cost(0); PLACES];
-                    list(heap, trace.draft, trace.link, events, &mut places)
+                    list(heap, draft, link, events, &mut places)
                 }
             }
         }
-        Err(error) => match error {
-            ReadError::Fault(fault) => format!(in heap; "{fault}\n"),
-            ReadError::NoMemory => Err(AllocError),
-        },
+        Err(ReadError::Fault(fault)) => format!(in heap; "{fault}\n"),
+        Err(ReadError::NoMemory(error)) => Err(error),
     }
 }

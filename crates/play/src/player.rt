@@ -1,5 +1,8 @@
-//! A tree with its link, on which events are played.
+//! A tree with its shelf and its link, on which events are played.
 use crate::charges::Charges;
+use items::Item;
+use shelf::shelf::Shelf;
+use tags::TagStore;
 use tree::tree::{Grant, Tree};
 
 mod events;
@@ -13,11 +16,11 @@ pub(crate) struct Turn {
     class: u8,
 }
 
-/// What the events of a trace are played on, beside one shelf that goes with every event; the open turn; and what each class was charged. The
-/// open turn has to be given up in the end.
+/// What the events of a trace are played on; the open turn; and what each class was charged. The open turn has to be given up in the end.
 #[derive(Drop)]
-pub(crate) struct Player<T, I, S> {
+pub(crate) struct Player<'a, T: TagStore, I: Item, S> {
     tree: Tree<T, I>,
+    shelf: Shelf<'a, I>,
     link: S,
     held: Option<Turn>,
     charges: Charges,

@@ -9,6 +9,7 @@ use Rattle.rules.specs.Rules.{Call, submit, dispatch, pulse, end_turn, give_up, 
 use Rattle.rules.specs.State.{State, to_do, open_turn}
 use Rattle.rules.proofs.Calls.{by_step, accepts}
 use Rattle.shelf.specs.declared.shelf.Shelf.{Shelf}
+use Rattle.tags.specs.declared.TagStore.{Ghosts as TagStore}
 use Rattle.tree.specs.Trees.{state_of}
 use Rattle.tree.specs.declared.tree.Tree.{Tree}
 use Rattle.sharing.specs.Turns.{Serves, Closed, Served}
@@ -28,7 +29,7 @@ module _ {I : Type 0} (K : Kind I) where
       (λ c e yes. absurd (both_ways _ refl yes)) (λ c d r le _. (d, le, refl, refl, r)) c a s' st
 
   -- what giving up needs, at the same tree and shelf beside any server
-  pub again : {T : Type 0} (t : Tree T I) (sh : Shelf I) (g : rules.Grant) (w w' : ℕ) → Ready K (state_of t sh w) (give_up g) → Ready K (state_of t sh w') (give_up g)
+  pub again : {T : Type 0} {H : TagStore T} (t : Tree T I H) (sh : Shelf I K) (g : rules.Grant) (w w' : ℕ) → Ready K (state_of t sh w) (give_up g) → Ready K (state_of t sh w') (give_up g)
   again t sh g w w' (n, full) = (record { opened = n.opened; house = n.house; turn = n.turn }, full)
 
   -- a dispatch begins a turn that its grant closes

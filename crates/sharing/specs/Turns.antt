@@ -5,13 +5,14 @@ use Rattle.rules.specs.Ready.{Ready}
 use Rattle.rules.specs.Rules.{give_up}
 use Rattle.rules.specs.State.{State, open_turn}
 use Rattle.shelf.specs.declared.shelf.Shelf.{Shelf}
+use Rattle.tags.specs.declared.TagStore.{Ghosts as TagStore}
 use Rattle.tree.specs.Answers.{grant_of}
 use Rattle.tree.specs.Trees.{state_of}
 use Rattle.tree.specs.declared.tree.Grant.{Grant}
 use Rattle.tree.specs.declared.tree.Tree.{Tree}
 
 -- the grant is the open turn's and the shelf is the tree's, so that the turn can be given up
-abbrev pub Holds : {T I : Type 0} → Kind I → Tree T I → Shelf I → Grant → Type 0
+abbrev pub Holds : {T I : Type 0} {H : TagStore T} (K : Kind I) → Tree T I H → Shelf I K → Grant → Type 0
 Holds K t shelf g = Ready K (state_of t shelf 0) (give_up (grant_of g))
 
 -- a turn that was begun at s is open at s', and the server's work since then is its work
@@ -21,9 +22,9 @@ pub record Serves {I : Type 0} (s s' : State I) : Type 0 where
   pub work : s'.work ≡ s.work + (open_turn s').done
 
 -- what is between the tree t with work w and the tree t' with work w' leaves the grant's turn open, and its work is the server's
-abbrev pub Keeps : {T I : Type 0} → Kind I → Grant → Tree T I → ℕ → Tree T I → ℕ → Type 0
+abbrev pub Keeps : {T I : Type 0} {H : TagStore T} → Kind I → Grant → Tree T I H → ℕ → Tree T I H → ℕ → Type 0
 Keeps {I = I} K g t w t' w' =
-    (sh : Shelf I) → Ready K (state_of t sh w) (give_up (grant_of g)) →
+    (sh : Shelf I K) → Ready K (state_of t sh w) (give_up (grant_of g)) →
     Ready K (state_of t' sh w') (give_up (grant_of g)) × ((b : State I) → Serves b (state_of t sh w) → Serves b (state_of t' sh w'))
 
 -- the open turn is closed: the tree is free, and the work of the turn is charged

@@ -1,7 +1,6 @@
 //! A film beside touch on one drive.
 ghost use Rattle.std.specs.Prelude.{◌≡◌, ◌+◌, ◌≤◌, IfOk};
 ghost use Rattle.sharing.specs.Shares.{turns, charged};
-ghost use Rattle.tree.specs.Trees.{InStep};
 
 use crate::share::Shares;
 use crate::turn::serve;
@@ -48,9 +47,7 @@ const READING: Block = Block {
 };
 
 /// Film at weight 2 with so many loaders below it, and touch at weight 1.
-pub fn kiosk<T: TagStore>(loaders: u8) -> Result<Tree<T, Block>, Refusal>
-    ensures { IfOk result (InStep T.TagStore.held) }
-{
+pub fn kiosk<T: TagStore>(loaders: u8) -> Result<Tree<T, Block>, Refusal> {
     let mut draft = Draft::new(1);
     draft.add(0, 2, b"film")?;
     draft.add(0, 1, b"touch")?;
@@ -81,14 +78,10 @@ pub fn submit<T: TagStore>(
     tree: &mut Tree<T, Block>,
     shelf: &mut Shelf<'_, Block>,
     loaders: u8,
-) -> Result<(), Refusal>
-    ensures { InStep T.TagStore.held tree.old → InStep T.TagStore.held tree.new }
-{
+) -> Result<(), Refusal> {
     for number in 0..READINGS + BLOCKS {
         let (class, item) = submission(number, loaders);
-        if let Err(refusal) = tree.submit(shelf, class, item) {
-            return Err(refusal);
-        }
+        tree.submit(shelf, class, item)?;
     }
     Ok(())
 }
@@ -99,7 +92,6 @@ pub fn play<T: TagStore, S: Server>(
     shelf: &mut Shelf<'_, Block>,
     server: &mut S,
 ) -> Result<Shares, Refusal>
-    requires { InStep T.TagStore.held tree.old }
     ensures { IfOk result (λ s. S.Server.work server.new ≡ S.Server.work server.old + charged s) }
 {
     let mut shares = Shares::NONE;
@@ -107,10 +99,7 @@ pub fn play<T: TagStore, S: Server>(
         if shares.film.turns >= u64::from(BLOCKS) {
             break;
         }
-        match next(tree, shelf, server, shares) {
-            Ok(more) => shares = more,
-            Err(refusal) => return Err(refusal),
-        }
+        shares = next(tree, shelf, server, shares)?;
     }
     Ok(shares)
 }
@@ -122,35 +111,25 @@ fn next<T: TagStore, S: Server>(
     server: &mut S,
     shares: Shares,
 ) -> Result<Shares, Refusal>
-    requires ordered { InStep T.TagStore.held tree.old }
     requires few { turns shares ≤ 1000 }
     requires fits { charged shares ≤ S.Server.work server.old }
-    ensures kept { InStep T.TagStore.held tree.new }
-    ensures adds { IfOk result (λ s. (turns s ≡ turns shares + 1) × (S.Server.work server.new + charged shares ≡ S.Server.work server.old + charged s)) }
+    ensures { IfOk result (λ s. (turns s ≡ turns shares + 1) × (S.Server.work server.new + charged shares ≡ S.Server.work server.old + charged s)) }
 {
-    let turn = match serve(tree, shelf, server, LIMIT) {
-        Ok(turn) => turn,
-        Err(refusal) => return Err(refusal),
-    };
+    let turn = serve(tree, shelf, server, LIMIT)?;
     if turn.class != TOUCH {
         let film = shares.film.add(turn.charge);
         return Ok(Shares { film, ..shares });
     }
     let touch = shares.touch.add(turn.charge);
-    match refill(tree, shelf) {
-        Ok(()) => Ok(Shares { touch, ..shares }),
-        Err(refusal) => Err(refusal),
-    }
+    refill(tree, shelf)?;
+    Ok(Shares { touch, ..shares })
 }
 
 /// Submits a reading of touch.
 fn refill<T: TagStore>(
     tree: &mut Tree<T, Block>,
     shelf: &mut Shelf<'_, Block>,
-) -> Result<(), Refusal>
-    requires { InStep T.TagStore.held tree.old }
-    ensures { InStep T.TagStore.held tree.new }
-{
+) -> Result<(), Refusal> {
     tree.submit(shelf, TOUCH, READING)
 }
 

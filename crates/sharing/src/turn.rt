@@ -3,7 +3,7 @@ ghost use Rattle.std.specs.Prelude.{◌≡◌, ℕ, MatchResult};
 ghost use Rattle.rules.specs.Rules.{Step, dispatch, refused};
 ghost use Rattle.rules.specs.State.{State};
 ghost use Rattle.sharing.specs.Turns.{Holds, Serves, Keeps, Closed, Served};
-ghost use Rattle.tree.specs.Trees.{state_of, InStep};
+ghost use Rattle.tree.specs.Trees.{state_of};
 
 use base::refusal::Refusal;
 use base::units::Units;
@@ -20,6 +20,9 @@ pub struct Turn {
     pub charge: Units,
 }
 
+// Tree, shelf and server go together, but not in one struct: one that owned them would ask more of callers than references, and one of
+// three references is not covered by the borrow checker where the three are lent. So `Holds`, which speaks of all of them, stays a clause.
+
 /// Serves one turn: pulses until its item is done, and ends it. Where `limit` pulses did not do the item, the turn is given up.
 pub fn serve<T: TagStore, I: Item, S: Server>(
     tree: &mut Tree<T, I>,
@@ -27,21 +30,14 @@ pub fn serve<T: TagStore, I: Item, S: Server>(
     server: &mut S,
     limit: u32,
 ) -> Result<Turn, Refusal>
-    requires { InStep T.TagStore.held tree.old }
-    ensures kept { InStep T.TagStore.held tree.new }
-    ensures served { MatchResult result
+    ensures { MatchResult result
         (λ t. Served (state_of tree.old shelf.old (S.Server.work server.old)) t.charge.0 (state_of tree.new shelf.new (S.Server.work server.new)))
         (λ e. (tree.new ≡ tree.old) × (shelf.new ≡ shelf.old) × (server.new ≡ server.old)
         × Step I.Item (state_of tree.old shelf.old 0) dispatch (refused e) (state_of tree.old shelf.old 0)) }
 {
-    match tree.dispatch(shelf) {
-        Ok(dispatch) => {
-            let Dispatch { grant, class, cost } = dispatch;
-            let charge = run(tree, grant, cost, shelf, server, limit);
-            Ok(Turn { class, charge })
-        }
-        Err(refusal) => Err(refusal),
-    }
+    let Dispatch { grant, class, cost } = tree.dispatch(shelf)?;
+    let charge = run(tree, grant, cost, shelf, server, limit);
+    Ok(Turn { class, charge })
 }
 
 /// Pulses until all the cost is done, and closes the turn; where `limit` pulses have not done it, the turn is given up.
@@ -54,8 +50,7 @@ fn run<T: TagStore, I: Item, S: Server>(
     limit: u32,
 ) -> Units
     requires { Holds I.Item tree.old shelf.old grant }
-    ensures kept { InStep T.TagStore.held tree.old → InStep T.TagStore.held tree.new }
-    ensures served { (b : State I) → Serves b (state_of tree.old shelf.old (S.Server.work server.old)) → Served b result.0 (state_of tree.new shelf.new (S.Server.work server.new)) }
+    ensures { (b : State I) → Serves b (state_of tree.old shelf.old (S.Server.work server.old)) → Served b result.0 (state_of tree.new shelf.new (S.Server.work server.new)) }
 {
     let left = pulses(tree, &grant, cost, server, limit);
     if left > 0 {
@@ -72,8 +67,7 @@ fn pulses<T: TagStore, I: Item, S: Server>(
     server: &mut S,
     limit: u32,
 ) -> u64
-    ensures kept { InStep T.TagStore.held tree.old → InStep T.TagStore.held tree.new }
-    ensures serving { Keeps I.Item grant.now tree.old (S.Server.work server.old) tree.new (S.Server.work server.new) }
+    ensures { Keeps I.Item grant.now tree.old (S.Server.work server.old) tree.new (S.Server.work server.new) }
 {
     let mut left = u64::from(cost);
     for _ in 0..limit {
@@ -92,8 +86,7 @@ fn pulse<T: TagStore, I: Item, S: Server>(
     server: &mut S,
     left: u64,
 ) -> u64
-    ensures kept { InStep T.TagStore.held tree.old → InStep T.TagStore.held tree.new }
-    ensures serving { Keeps I.Item grant.now tree.old (S.Server.work server.old) tree.new (S.Server.work server.new) }
+    ensures { Keeps I.Item grant.now tree.old (S.Server.work server.old) tree.new (S.Server.work server.new) }
 {
     match tree.pulse(grant, server) {
         Ok(work) => left.saturating_sub(work.get()),
@@ -108,8 +101,7 @@ pub fn close<T: TagStore, I: Item>(
     shelf: &mut Shelf<'_, I>,
 ) -> Units
     requires { Holds I.Item tree.old shelf.old grant }
-    ensures kept { InStep T.TagStore.held tree.old → InStep T.TagStore.held tree.new }
-    ensures closed { (w : ℕ) → Closed (state_of tree.old shelf.old w) result.0 (state_of tree.new shelf.new w) }
+    ensures { (w : ℕ) → Closed (state_of tree.old shelf.old w) result.0 (state_of tree.new shelf.new w) }
 {
     match tree.end(grant, shelf) {
         Ok(charge) => charge,
@@ -124,8 +116,7 @@ pub fn give_up<T: TagStore, I: Item>(
     shelf: &Shelf<'_, I>,
 ) -> Units
     requires { Holds I.Item tree.old shelf.now grant }
-    ensures kept { InStep T.TagStore.held tree.old → InStep T.TagStore.held tree.new }
-    ensures closed { (w : ℕ) → Closed (state_of tree.old shelf.now w) result.0 (state_of tree.new shelf.now w) }
+    ensures { (w : ℕ) → Closed (state_of tree.old shelf.now w) result.0 (state_of tree.new shelf.now w) }
 {
     match tree.give_up(grant, shelf) {
         Ok(charge) => charge,

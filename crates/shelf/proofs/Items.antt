@@ -1,12 +1,14 @@
 -- What stands at the places of a lane. Assumes nothing.
-use Rattle.std.proofs.Common.{◌≡◌, ℕ, zero, suc, ◌<◌, ◌≤◌, Bool, true, false, cond, eqb, List, [], ◌∷◌, ◌++◌, length, get_or, drop, set, Some, None, sym, refl, ap, ◌∙◌, ap₂, ⊎_elim, append_assoc, arith}
+use Rattle.std.proofs.Common.{◌≡◌, ℕ, zero, suc, ◌+◌, ◌<◌, ◌≤◌, Bool, true, false, cond, eqb, List, [], ◌∷◌, ◌++◌, length, get_or, drop, set, Option, Some, None, sym, refl, ap, ◌∙◌, ap₂, ⊎_elim, append_assoc, arith}
+use Rattle.std.specs.Option.{MatchOption}
 use Rattle.std.proofs.lemmas.List.{nil_from_length}
 use Rattle.std.proofs.lemmas.Bool.{cases_eq, eq-eqb, ne_eqb, cond-true, cond-false}
 use Rattle.shelf.specs.Chains.{first}
-use Rattle.shelf.specs.Tables.{line, Claimed, Released}
-use Rattle.shelf.specs.Lanes.{took, items, headed}
+use Rattle.shelf.specs.Tables.{line, spare, Claimed, Released}
+use Rattle.shelf.specs.Places.{took, items, lanes_of}
+use Rattle.shelf.specs.Lanes.{headed}
 use Rattle.shelf.specs.declared.table.LinkTable.{LinkTable}
-use Rattle.shelf.proofs.Lines.{no_first, free_alone, head_alone, line_within}
+use Rattle.shelf.proofs.Lines.{no_first, released_free, free_alone, head_alone, line_within}
 
 module _ {X : Type 0} where
   took_read : (xs : List X) (p : ℕ) (d : X) → p < length xs → took xs p ≡ get_or xs p d ∷ []
@@ -51,7 +53,7 @@ module _ {X : Type 0} where
   items_drop xs (p ∷ ps) in-it = let one = took_one xs p (in-it 0 (omega arith)) in ap (λ w. drop 1 (w ++ items xs ps)) (sym one.1)
 
   items_first : (xs : List X) (ps : List ℕ) (p : ℕ) (d : X) → p < length xs → first ps ≡ Some p → first (items xs ps) ≡ Some (get_or xs p d)
-  items_first xs [] p d l e = let z : ◌≡◌ {A = ℕ} 0 1 = cc in absurd (omega arith)
+  items_first xs [] p d l e = absurd (cc)
   items_first xs (q ∷ ps) p d l e = let same : q ≡ p = cc in ap (λ w. first (took xs w ++ items xs ps)) same ∙ ap (λ w. first (w ++ items xs ps)) (took_read xs p d l)
 
   -- a write to the first of them
@@ -98,6 +100,15 @@ module _ {X : Type 0} where
         (λ same. let nil : items xs (line t j) ≡ [] = ap (λ i. items xs (line t i)) same ∙ lane_none k e in nil ∙ ap (drop 1) (sym nil) ∙ sym (cond-true (eqb j k) _ _ (eq-eqb j k same)))
         (λ n. sym (cond-false (eqb j k) _ _ (ne_eqb j k n)))
         (cases_eq j k)
+
+    -- the head of a lane is removed, if it has one
+    pub removed_lane : (t' : LinkTable) (k : ℕ) (r : Option ℕ) → r ≡ first (line t k) → MatchOption r (t' ≡ t) (λ p. Released t t' k p) → (j : ℕ) → lanes_of xs t' j ≡ cond (eqb j k) (drop 1 (lanes_of xs t j)) (lanes_of xs t j)
+    removed_lane t' k None e same j = ap (λ u. lanes_of xs u j) same ∙ remove_none k e j
+    removed_lane t' k (Some p) e h j = remove_lane t' k p h j
+
+    pub removed_free : (t' : LinkTable) (k : ℕ) (x : X) (r : Option ℕ) → r ≡ first (line t k) → MatchOption r (t' ≡ t) (λ p. Released t t' k p) → Some x ≡ first (items xs (line t k)) → length (spare t') ≡ length (spare t) + 1
+    removed_free t' k x None e same some = let nil = ap first (lane_none k e) in absurd (cc)
+    removed_free t' k x (Some p) e h some = released_free t t' k p h
 
     -- another item in the place of the head of a lane
     pub replace_lane : (k p : ℕ) (x : X) → p < length xs → first (line t k) ≡ Some p → (j : ℕ) → items (set xs p x) (line t j) ≡ cond (eqb j k) (headed (Some x) (items xs (line t j))) (items xs (line t j))

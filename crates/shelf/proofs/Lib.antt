@@ -5,4 +5,3 @@ pub mod Fresh
 pub mod Items
 pub mod Totals
 pub mod Prices
-pub mod Shelves

@@ -1,14 +1,17 @@
 -- The places of lanes and the free places. Assumes nothing.
-use Rattle.std.proofs.Common.{◌≡◌, ℕ, zero, suc, ◌+◌, ◌<◌, ◌≤◌, cond, eqb, ltb, List, [], ◌∷◌, ◌++◌, length, get_or, drop, Some, None, sym, refl, ap, ◌∙◌, subst, ⊎_elim, arith}
-use Rattle.std.proofs.lemmas.List.{length-drop, length_push}
-use Rattle.std.proofs.lemmas.Bool.{cases_eq, cases_lt, eq-eqb, ne_eqb, lt-ltb, le-ltb, cond-true, cond-false}
-use Rattle.shelf.specs.Chains.{walk, chain, moved, first}
-use Rattle.shelf.specs.Tables.{line, spare, Claimed, Released}
+use Rattle.std.proofs.Common.{◌≡◌, ℕ, ◌+◌, ◌<◌, ◌≤◌, cond, ltb, List, [], ◌∷◌, length, get_or, Option, Some, None, sym, refl, ap, ◌∙◌, subst, ⊎_elim, arith}
+use Rattle.std.specs.Option.{MatchOption, IfSome}
+use Rattle.std.proofs.lemmas.Option.{MatchOption-at_some}
+use Rattle.std.proofs.lemmas.List.{length_push}
+use Rattle.std.proofs.lemmas.Bool.{cases_lt, lt-ltb, le-ltb, cond-true, cond-false}
+use Rattle.std.proofs.lemmas.Bool.Decides.{nat_tests}
+use Rattle.shelf.specs.Chains.{row, chain, first}
+use Rattle.shelf.specs.Tables.{line, spare, Passed, Claimed, Released}
 use Rattle.shelf.specs.declared.table.LinkTable.{LinkTable}
-use Rattle.shelf.proofs.Walks.{length_walk, walk_first}
+use Rattle.shelf.proofs.Walks.{length_walk, walk_first, first_is}
 
 abbrev chain_of : LinkTable → ℕ → List ℕ
-chain_of t k = chain t.next t.heads t.lens k
+chain_of t k = chain t.next t.chains k
 
 pub line_in : (t : LinkTable) (k : ℕ) → k < 64 → line t k ≡ chain_of t k
 line_in t k l = cond-true (ltb k 64) (chain_of t k) [] (lt-ltb k 64 l)
@@ -16,74 +19,26 @@ line_in t k l = cond-true (ltb k 64) (chain_of t k) [] (lt-ltb k 64 l)
 pub line_out : (t : LinkTable) (k : ℕ) → 64 ≤ k → line t k ≡ []
 line_out t k l = cond-false (ltb k 64) (chain_of t k) [] (le-ltb k 64 l)
 
-never : (p : ℕ) → None ≡ Some p → ⊥
-never p e = let z : ◌≡◌ {A = ℕ} 0 1 = cc in omega arith
-
-some_first : (ps : List ℕ) (p : ℕ) → first ps ≡ Some p → 0 < length ps
-some_first [] p e = absurd (never p e)
-some_first (q ∷ ps) p e = omega arith
-
 pub no_first : (ps : List ℕ) → None ≡ first ps → length ps ≡ 0
 no_first [] e = refl
-no_first (q ∷ ps) e = absurd (never q e)
+no_first (q ∷ ps) e = absurd (cc)
 
-pub first_walk : (next : List ℕ) (n p : ℕ) → 0 < n → Some p ≡ first (walk next n p)
-first_walk next zero p l = absurd (omega arith)
-first_walk next (suc n) p l = refl
-
-pub first_within : (t : LinkTable) (k : ℕ) → 0 < get_or t.lens k 0 → get_or t.heads k 0 < t.size
+pub first_within : (t : LinkTable) (k : ℕ) → 0 < (row t.chains k).len → (row t.chains k).head < t.size
 first_within t k l = subst (λ p. p < t.size) (walk_first t.next _ _ l) (t.inside k 0 l)
 
--- a lane that has a place is a known one
-pub known : (t : LinkTable) (k : ℕ) → 0 < length (line t k) → k < 64
-known t k l = ⊎_elim (λ m. m) (λ m. absurd (omega (arith, ap length (line_out t k m)))) (cases_lt k 64)
-
-pub some_in : (t : LinkTable) (k : ℕ) → 0 < length (line t k) → 0 < get_or t.lens k 0
-some_in t k l = omega (arith, ap length (line_in t k (known t k l)), length_walk t.next (get_or t.lens k 0) (get_or t.heads k 0))
+pub chain_within : (t : LinkTable) (k : ℕ) (r : Option ℕ) → r ≡ first (chain_of t k) → IfSome r (λ p. p < t.size)
+chain_within t k None e = tt
+chain_within t k (Some p) e = let at = first_is t.next _ _ p (sym e) in subst (λ q. q < t.size) at.1 (first_within t k at.0)
 
 -- every place of a chain is inside
 within : (t : LinkTable) (k i : ℕ) → i < length (chain_of t k) → get_or (chain_of t k) i 0 < t.size
 within t k i l = t.inside k i (subst (λ n. i < n) (length_walk t.next _ _) l)
 
-module _ (t t' : LinkTable) (k p : ℕ) (known : k < 64) (in_table : p < t.size) (same : t'.size ≡ t.size) where
-  -- what changes chain k alone among those of the lanes changes lane k alone
-  lined : (f : List ℕ → List ℕ) → ((j : ℕ) → j < 64 → chain_of t' j ≡ cond (eqb j k) (f (chain_of t k)) (chain_of t j)) → (j : ℕ) → line t' j ≡ cond (eqb j k) (f (line t j)) (line t j)
-  lined f chains j = ⊎_elim
-      (λ e. let here : line t' k ≡ f (line t k) = line_in t' k known ∙ chains k known ∙ cond-true (eqb k k) _ _ (eq-eqb k k refl) ∙ ap f (sym (line_in t k known)) in
-      subst (λ i. line t' i ≡ cond (eqb i k) (f (line t i)) (line t i)) (sym e) (here ∙ sym (cond-true (eqb k k) _ _ (eq-eqb k k refl))))
-      (λ n. ⊎_elim
-      (λ l. line_in t' j l ∙ chains j l ∙ cond-false (eqb j k) _ _ (ne_eqb j k n) ∙ sym (line_in t j l))
-      (λ l. line_out t' j l ∙ sym (line_out t j l))
-      (cases_lt j 64) ∙ sym (cond-false (eqb j k) _ _ (ne_eqb j k n)))
-      (cases_eq j k)
-
-  pub claimed : first (spare t) ≡ Some p → ((j : ℕ) → chain_of t' j ≡ moved (chain_of t) 64 k p j) → Claimed t t' k p
-  claimed was chains = record {
-    was = was;
-    within = in_table;
-    same = same;
-    lines = lined (λ c. c ++ p ∷ []) (λ j l. let n : j ≡ 64 → ⊥ = λ e. omega arith in chains j ∙ ap (cond (eqb j k) (chain_of t k ++ p ∷ [])) (cond-false (eqb j 64) _ _ (ne_eqb j 64 n)));
-    spares = let n : 64 ≡ k → ⊥ = λ e. omega arith in chains 64 ∙ cond-false (eqb 64 k) _ _ (ne_eqb 64 k n);
-  }
-
-  pub released : first (line t k) ≡ Some p → ((j : ℕ) → chain_of t' j ≡ moved (chain_of t) k 64 p j) → Released t t' k p
-  released was chains = record {
-    was = was;
-    within = in_table;
-    same = same;
-    lines = lined (drop 1) (λ j l. let n : j ≡ 64 → ⊥ = λ e. omega arith in chains j ∙ cond-false (eqb j 64) _ _ (ne_eqb j 64 n));
-    spares = chains 64;
-  }
-
-first_is : (next : List ℕ) (n q p : ℕ) → first (walk next n q) ≡ Some p → (0 < n) × (get_or (walk next n q) 0 0 ≡ p)
-first_is next zero q p e = absurd (never p e)
-first_is next (suc n) q p e = (omega arith, cc)
-
 -- the first place of a chain stands nowhere else
 alone : (t : LinkTable) (k p : ℕ) → first (chain_of t k) ≡ Some p → (j i : ℕ) → i < length (chain_of t j) → get_or (chain_of t j) i 0 ≡ p → (j ≡ k) × (i ≡ 0)
 alone t k p f j i l e =
     let at = first_is t.next _ _ p f in
-    t.apart (j, i, k, 0) (subst (λ n. i < n) (length_walk t.next _ _) l, at.0, e ∙ sym at.1)
+    t.apart (j, i, k, 0) (subst (λ n. i < n) (length_walk t.next _ _) l, at.0, e ∙ sym at.1 ∙ sym (walk_first t.next _ _ at.0))
 
 none : (t : LinkTable) (j i : ℕ) → 64 ≤ j → i < length (line t j) → ⊥
 none t j i h l = omega (arith, ap length (line_out t j h))
@@ -100,7 +55,7 @@ pub head_alone : (t : LinkTable) (k p : ℕ) → first (line t k) ≡ Some p →
 head_alone t k p f j i l e = ⊎_elim
     (λ h. ⊎_elim
     (λ m. alone t k p (ap first (sym (line_in t k m)) ∙ f) j i (subst (λ c. i < length c) (line_in t j h) l) (ap (λ c. get_or c i 0) (sym (line_in t j h)) ∙ e))
-    (λ m. absurd (never p (ap first (sym (line_out t k m)) ∙ f)))
+    (λ m. let e = ap first (sym (line_out t k m)) ∙ f in absurd (cc))
     (cases_lt k 64))
     (λ h. absurd (none t j i h l))
     (cases_lt j 64)
@@ -112,9 +67,21 @@ line_within t j i l = ⊎_elim
     (λ h. absurd (none t j i h l))
     (cases_lt j 64)
 
--- how many are free after a move
-pub claimed_free : (t t' : LinkTable) (k p : ℕ) → Claimed t t' k p → length (spare t') + 1 ≡ length (spare t)
-claimed_free t t' k p h = let l = some_first (spare t) p h.was in omega (arith, ap length h.spares, length-drop 1 (spare t))
+-- the first place of a lane became the last free one
+pub released : (t t' : LinkTable) (k : ℕ) (r : Option ℕ) → k < 64 → r ≡ first (chain_of t k) → MatchOption r (t' ≡ t) (λ p. Passed t t' k 64 p) → MatchOption r (t' ≡ t) (λ p. Released t t' k p)
+released t t' k None l e h = h
+released t t' k (Some p) l e h = record {
+  was = ap first (line_in t k l) ∙ sym e;
+  within = h.within;
+  same = h.same;
+  lines = λ j. grind (arith, nat_tests, h.chains j);
+  spares = h.chains 64;
+}
 
+-- what is claimed is the first free place
+pub claimed_first : (t t' : LinkTable) (k p : ℕ) (r : Option ℕ) → k < 64 → first (spare t) ≡ Some p → r ≡ cond (ltb k 64) (first (spare t)) None → MatchOption r (t' ≡ t) (λ q. Claimed t t' k q) → Claimed t t' k p
+claimed_first t t' k p r l f e h = MatchOption-at_some _ _ p (e ∙ cond-true _ _ _ (lt-ltb k 64 l) ∙ f) h
+
+-- how many are free once one more is
 pub released_free : (t t' : LinkTable) (k p : ℕ) → Released t t' k p → length (spare t') ≡ length (spare t) + 1
 released_free t t' k p h = ap length h.spares ∙ length_push (spare t) p

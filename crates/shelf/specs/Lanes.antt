@@ -1,40 +1,30 @@
 -- What a shelf means: for each lane the list of its items, and how many places are free.
-use Rattle.std.specs.Prelude.{◌≡◌, ℕ, zero, suc, ◌+◌, ◌≤◌, Bool, cond, not, ◌&&◌, List, [], ◌∷◌, ◌++◌, length, drop, Some, None, Ok, Err, Option, Result, ◌==◌, nat_le, nat_lt}
-use Rattle.std.specs.List.{AllByRecursion}
+use Rattle.std.specs.Prelude.{◌≡◌, ℕ, zero, suc, ◌+◌, Bool, cond, not, ◌&&◌, List, [], ◌∷◌, length, drop, Some, None, Ok, Err, Option, Result, ◌==◌, nat_le, nat_lt}
 use Rattle.base.specs.declared.refusal.Refusal.{Refusal}
 use Rattle.base.specs.declared.refusal.Refusal.TheVariants.{UnknownClass, BadCost, ShelfFull}
-use Rattle.shelf.specs.Tables.{line, spare}
+use Rattle.items.specs.declared.Item.{Ghosts}
+use Rattle.shelf.specs.Places.{lanes_of}
+use Rattle.shelf.specs.Tables.{spare}
 use Rattle.shelf.specs.declared.shelf.Shelf.{Shelf}
 
--- what stands at a place, as a list of one; past the last place, of none
-abbrev pub took : {X : Type 0} → List X → ℕ → List X
-took [] p = []
-took (x ∷ xs) zero = x ∷ []
-took (x ∷ xs) (suc p) = took xs p
-
--- what stands at each of some places
-abbrev pub items : {X : Type 0} → List X → List ℕ → List X
-items xs [] = []
-items xs (p ∷ ps) = took xs p ++ items xs ps
-
 -- the items of a lane, the head first; no lane above 63 has any
-abbrev pub lanes : {I : Type 0} → Shelf I → ℕ → List I
-lanes s j = items s.places.now (line s.table j)
+abbrev pub lanes : {I : Type 0} {K : Ghosts I} → Shelf I K → ℕ → List I
+lanes s = lanes_of s.places.now s.table
 
 -- how many places the shelf has
-abbrev pub room : {I : Type 0} → Shelf I → ℕ
+abbrev pub room : {I : Type 0} {K : Ghosts I} → Shelf I K → ℕ
 room s = s.table.size
 
 -- how many of them are free
-abbrev pub free : {I : Type 0} → Shelf I → ℕ
+abbrev pub free : {I : Type 0} {K : Ghosts I} → Shelf I K → ℕ
 free s = length (spare s.table)
 
 -- the memory past the first 256 places, which no shelf touches
-abbrev pub beyond : {I : Type 0} → Shelf I → List I
+abbrev pub beyond : {I : Type 0} {K : Ghosts I} → Shelf I K → List I
 beyond s = drop 256 s.places.now
 
 -- the shelf still holds the memory that it was lent, and past the first 256 places that is as it was
-abbrev pub Lent : {I : Type 0} → Shelf I → Shelf I → Type 0
+abbrev pub Lent : {I : Type 0} {K : Ghosts I} → Shelf I K → Shelf I K → Type 0
 Lent s s' = (s'.places.ghost_name ≡ s.places.ghost_name) × (beyond s' ≡ beyond s)
 
 -- f 0 + .. + f (n - 1)
@@ -43,7 +33,7 @@ sum_below f zero = 0
 sum_below f (suc n) = f n + sum_below f n
 
 -- how many items stand in the lanes
-unfoldable pub stored : {I : Type 0} → Shelf I → ℕ
+unfoldable pub stored : {I : Type 0} {K : Ghosts I} → Shelf I K → ℕ
 stored s = sum_below (λ j. length (lanes s j)) 64
 
 -- what putting answers, by lane, cost and free places: the first check that fails
@@ -64,7 +54,3 @@ abbrev pub headed : {I : Type 0} → Option I → List I → List I
 headed None xs = xs
 headed (Some y) [] = []
 headed (Some y) (x ∷ xs) = y ∷ xs
-
--- every item in a lane costs 1 to 65,535
-abbrev pub Priced : {I : Type 0} → (I → ℕ) → Shelf I → Type 0
-Priced costs s = (j : ℕ) → AllByRecursion (λ x. (1 ≤ costs x) × (costs x ≤ 65535)) (lanes s j)

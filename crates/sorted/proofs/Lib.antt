@@ -1,3 +1,3 @@
 pub mod Precedes
-pub mod Shifts
+pub mod Means
 pub mod Sorts

@@ -1,22 +1,11 @@
 //! One class that stands.
-ghost use Rattle.std.specs.Prelude.{◌≡◌};
-ghost use Rattle.sorted.specs.Rows.{precedes};
-
 use base::units::Parts;
+use tags::number::Number;
 
 /// A class with its group and its tag. Entries are ordered by group, then by tag, then by class.
-#[derive(Clone, Copy, PartialEq, PartialOrd)]
+#[derive(Clone, Copy, PartialEq, PartialOrd, Default)]
 pub struct Entry {
-    pub group: u8,
+    pub group: Number,
     pub tag: Parts,
-    pub class: u8,
-}
-
-impl Entry {
-    /// This entry comes before the other.
-    pub(crate) fn before(self, other: Entry) -> bool
-        ensures { result ≡ precedes self other }
-    {
-        self < other
-    }
+    pub class: Number,
 }

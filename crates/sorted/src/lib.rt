@@ -2,7 +2,6 @@
 #![tactic(auto)]
 
 mod entry;
-mod list;
 mod store;
 
 pub use crate::store::SortedStore;

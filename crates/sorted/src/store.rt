@@ -1,81 +1,84 @@
 //! The store: a list that is in order.
-ghost use Rattle.std.specs.Prelude.{◌≡◌, ℕ, ◌<◌, true, Some, None};
+ghost use Rattle.std.specs.Prelude.{◌≡◌, ◌<◌, ◌≤◌, true, false, length, Some, None, slice_index_or};
+ghost use Rattle.std.specs.List.Sorted.{IsPartitionPoint};
 ghost use Rattle.tags.specs.Held.{with, free};
-ghost use Rattle.sorted.specs.Rows.{row, precedes, differ, Pairwise, held_in, Parted};
-ghost use Rattle.sorted.specs.Means.{held_small};
+ghost use Rattle.sorted.specs.Rows.{precedes, InOrder, Once, held_in, Found};
+ghost use Rattle.sorted.specs.Small.{held_small};
 
 use crate::entry::Entry;
-use crate::list::EntryList;
+use arrayvec::ArrayVec;
 use base::units::Parts;
 use tags::TagStore;
+use tags::number::Number;
 
 /// The classes that stand, sorted by group, then by tag, then by class.
 #[derive(Drop)]
 pub struct SortedStore {
-    list: EntryList,
-    ghost groups: { (i : ℕ) → i < list.len → (row list.entries i).group < 64 },
-    ghost classes: { (i : ℕ) → i < list.len → (row list.entries i).class < 64 },
-    ghost once: { Pairwise differ (row list.entries) list.len },
-    ghost sorted: { Pairwise precedes (row list.entries) list.len },
+    entries: ArrayVec<Entry, 64>,
+    ghost once: { Once entries.items },
+    ghost sorted: { InOrder entries.items },
 }
 
 impl SortedStore {
-    // The class has no pair.
-    fn is_free(&self, class: u8) -> bool
-        ensures { result ≡ free (held_in (row self.now.list.entries) self.now.list.len class) }
+    // The place of a class.
+    fn position(&self, class: u8) -> Option<usize>
+        ensures { Found self.now.entries.items class result }
     {
-        self.list.position(class).is_none()
+        self.entries
+            .iter()
+            .position(|entry| entry.class.get() == class)
+    }
+
+    // The class has no pair.
+    fn is_free(&self, class: Number) -> bool
+        ensures { result ≡ free (held_in self.now.entries.items class.value) }
+    {
+        self.position(class.get()).is_none()
     }
 
     // How many entries come before the given one.
     fn place(&self, key: Entry) -> usize
-        ensures { Parted (row self.now.list.entries) self.now.list.len result key }
+        ensures most { result ≤ length self.now.entries.items }
+        ensures parted { IsPartitionPoint (λ a. precedes a key ≡ true) (λ a. precedes a key ≡ false) self.now.entries.items result }
     {
-        let mut low = 0;
-        let mut high = self.list.len();
-        while low < high {
-            let middle = low + (high - low) / 2;
-            if self.list.get(middle).before(key) {
-                low = middle + 1;
-            } else {
-                high = middle;
-            }
-        }
-        low
+        self.entries.partition_point(|entry| *entry < key)
     }
 
     // Puts in the entry of a class that has none.
     fn insert(&mut self, new: Entry)
-        requires known { (new.group < 64) × (new.class < 64) }
-        requires free { free (held_in (row self.old.list.entries) self.old.list.len new.class) ≡ true }
-        ensures { held_in (row self.new.list.entries) self.new.list.len ≡ with (held_in (row self.old.list.entries) self.old.list.len) new.class (Some (new.group, new.tag)) }
+        requires { free (held_in self.old.entries.items new.class.value) ≡ true }
+        ensures { held_in self.new.entries.items ≡ with (held_in self.old.entries.items) new.class.value (Some (new.group.value, new.tag)) }
     {
         let at = self.place(new);
-        self.list.insert(at, new);
+        self.entries.insert(at, new);
     }
 
     // Removes the entry at a place.
-    fn remove(&mut self, at: usize)
-        requires { at < self.old.list.len }
-        ensures { held_in (row self.new.list.entries) self.new.list.len ≡ with (held_in (row self.old.list.entries) self.old.list.len) (row self.old.list.entries at).class None }
+    fn remove(&mut self, at: usize) -> Entry
+        requires { at < length self.old.entries.items }
+        ensures value { result ≡ slice_index_or self.old.entries.items at result }
+        ensures after { held_in self.new.entries.items ≡ with (held_in self.old.entries.items) result.class.value None }
     {
-        self.list.remove(at);
+        self.entries.remove(at)
     }
 }
 
 impl TagStore for SortedStore {
-    ghost held = { λ s. held_in (row s.list.entries) s.list.len };
+    ghost held = { λ s. held_in s.entries.items };
 
-    ghost small = { λ s. held_small (row s.list.entries) s.list.len s.once s.classes s.groups };
+    ghost small = { λ s. held_small s.entries.items };
 
     fn empty() -> SortedStore {
         SortedStore {
-            list: EntryList::new(),
+            entries: ArrayVec::new(),
         }
     }
 
     fn put(&mut self, group: u8, class: u8, tag: Parts) -> bool {
-        if group >= 64 || class >= 64 || !self.is_free(class) {
+        let (Some(group), Some(class)) = (Number::new(group), Number::new(class)) else {
+            return false;
+        };
+        if !self.is_free(class) {
             return false;
         }
         self.insert(Entry { group, tag, class });
@@ -83,28 +86,21 @@ impl TagStore for SortedStore {
     }
 
     fn least(&self, group: u8) -> Option<(u8, Parts)> {
-        let first = Entry {
+        let group = Number::new(group)?;
+        let lowest = Entry {
             group,
             tag: Parts::ZERO,
-            class: 0,
+            class: Number::default(),
         };
-        let at = self.place(first);
-        if at >= self.list.len() {
-            return None;
-        }
-        let entry = self.list.get(at);
+        let entry = self.entries.get(self.place(lowest))?;
         if entry.group != group {
             return None;
         }
-        Some((entry.class, entry.tag))
+        Some((entry.class.get(), entry.tag))
     }
 
     fn take(&mut self, class: u8) -> Option<Parts> {
-        let Some(at) = self.list.position(class) else {
-            return None;
-        };
-        let tag = self.list.get(at).tag;
-        self.remove(at);
-        Some(tag)
+        let at = self.position(class)?;
+        Some(self.remove(at).tag)
     }
 }

@@ -1,4 +1,3 @@
 mod Played
 mod Printed
 mod Timed
-mod Told

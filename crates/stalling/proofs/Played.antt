@@ -1,21 +1,10 @@
 -- One draw more.
-use Rattle.std.proofs.Common.{◌≡◌, ℕ, ◌+◌, ◌-◌, ◌<◌, ◌≤◌, Bool, true, false, cond, eqb, List, [], ◌∷◌, ◌++◌, length, sym, refl, ap, ◌∙◌, subst, arith}
+use Rattle.std.proofs.Common.{◌≡◌, ℕ, ◌+◌, ◌-◌, ◌<◌, ◌≤◌, cond, eqb, List, [], ◌∷◌, ◌++◌, length, sym, refl, ap, ◌∙◌, subst, arith}
 use Rattle.std.proofs.lemmas.List.{length_push}
+use Rattle.std.proofs.lemmas.List.Sums.{count_by-le-length, sum_by-cons, sum_by_push}
 use Rattle.stalling.specs.declared.draw.Draw.{Draw}
 use Rattle.stalling.specs.Draws.{done_by, idle_of}
 use Rattle.stalling.specs.Plays.{Plays}
-
-done_more : (xs : List Draw) (x : Draw) → done_by (xs ++ x ∷ []) ≡ done_by xs + x.done
-done_more [] x = omega arith
-done_more (y ∷ xs) x = omega (arith, done_more xs x)
-
-idle_more : (xs : List Draw) (x : Draw) → idle_of (xs ++ x ∷ []) ≡ idle_of xs + cond (eqb x.done 0) 1 0
-idle_more [] x = omega arith
-idle_more (y ∷ xs) x = omega (arith, idle_more xs x)
-
-at_most_one : (b : Bool) → cond b 1 0 ≤ 1
-at_most_one true = omega arith
-at_most_one false = omega arith
 
 -- what is known after some draws of an item: where the server is, how many there were, how many did nothing, what is left
 pub record Sofar {S : Type 0} (draws : S → ℕ → ℕ → S → Type 0) (s : S) (cost : ℕ) (xs : List Draw) (t : S) (number idle left : ℕ) : Type 0 where
@@ -33,6 +22,7 @@ module _ {S : Type 0} (draws : S → ℕ → ℕ → S → Type 0) where
       (omega arith, omega arith, all, (u, subst (λ v. draws v left x.done u) (sym p) from, refl))
   plays_more s k left (y ∷ xs) t x u p some number wanted d =
       let rest = p.3 in
+      let less : done_by (y ∷ xs) ≡ y.done + done_by xs = sum_by-cons (λ x. x.done) y xs in
       (p.0, p.1, p.2, (rest.0, rest.1, plays_more rest.0 (k + 1) (left - y.done) xs t x u rest.2 (omega arith) (omega arith) (omega arith) d))
 
   pub sofar_more : (s : S) (cost : ℕ) (xs : List Draw) (t : S) (number idle left : ℕ) → Sofar draws s cost xs t number idle left → 0 < left → (d : ℕ) (u : S) → d ≤ left → draws t left d u → (more : ℕ) → more ≡ idle + cond (eqb d 0) 1 0 → (ys : List Draw) → ys ≡ xs ++ record { number = number; wanted = left; done = d } ∷ [] → Sofar draws s cost ys u (number + 1) more (left - d)
@@ -40,10 +30,12 @@ module _ {S : Type 0} (draws : S → ℕ → ℕ → S → Type 0) where
       let x : Draw = record { number = number; wanted = left; done = d } in
       let rest = h.rest in
       let to_do : left ≡ cost - done_by xs = omega arith in
+      let count : length ys ≡ number + 1 = rw e (length_push xs x ∙ ap (λ n. n + 1) h.count) in
+      let idles : more ≡ idle_of ys = rw e (idled ∙ ap (λ n. n + cond (eqb d 0) 1 0) h.idled ∙ sym (sum_by_push (λ y. cond (eqb y.done 0) 1 0) xs x)) in
       record {
         plays = rw e (plays_more s 0 cost xs t x u h.plays (omega arith) (omega (arith, h.count)) to_do drew);
-        count = rw e (length_push xs x ∙ ap (λ n. n + 1) h.count);
-        idled = rw e (idled ∙ ap (λ n. n + cond (eqb d 0) 1 0) h.idled ∙ sym (idle_more xs x));
-        few = omega (arith, idled, h.few, at_most_one (eqb d 0));
-        rest = rw e (omega (arith, done_more xs x));
+        count = count;
+        idled = idles;
+        few = omega (arith, count_by-le-length (λ y. eqb y.done 0) ys);
+        rest = rw e (omega (arith, sum_by_push (λ y. y.done) xs x));
       }

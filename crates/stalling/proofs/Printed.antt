@@ -7,11 +7,11 @@ use Rattle.stalling.specs.declared.play.Run.{Run}
 use Rattle.plans.specs.declared.read.Plan.{Plan}
 use Rattle.stalling.specs.Draws.{done_by, idle_of}
 use Rattle.plans.specs.Inputs.{Planned}
-use Rattle.stalling.specs.Listings.{Prints, played, last_line, told_draws}
+use Rattle.stalling.specs.Listings.{Prints, played, last_line, run_text, told_draws}
 use Rattle.stalling.specs.Plays.{Played}
 use Rattle.stalling.proofs.Timed.{link_draws, timed}
 
-pub prints_run : (bs : List ℕ) (p : Plan) (r : Run) (t : Interrupted FixedLink) (out : List ℕ) → Planned bs p → p.cost ≤ 4294967295 → Played link_draws p.link p.cost r t → out ≡ told_draws (vec_items r.draws) ++ last_line (vec_len r.draws) r.idle r.left → Prints bs out
+pub prints_run : (bs : List ℕ) (p : Plan) (r : Run) (t : Interrupted FixedLink) (out : List ℕ) → Planned bs p → p.cost ≤ 4294967295 → Played link_draws p.link p.cost r t → out ≡ run_text r → Prints bs out
 prints_run bs p r t out plan small run wrote =
     let xs = vec_items r.draws in
     let new = plan.2 in

@@ -1,8 +1,9 @@
 -- What the program prints.
-use Rattle.std.specs.Prelude.{ℕ, ◌-◌, cond, List, [], ◌∷◌, ◌++◌, length, codes, decimal, ◌==◌}
+use Rattle.std.specs.Prelude.{ℕ, ◌-◌, cond, List, [], ◌∷◌, ◌++◌, length, codes, decimal, vec_items, vec_len, ◌==◌}
 use Rattle.std.specs.List.{flat_map}
 use Rattle.links.specs.declared.outage.Outage.{Outage}
 use Rattle.stalling.specs.declared.draw.Draw.{Draw}
+use Rattle.stalling.specs.declared.play.Run.{Run}
 use Rattle.plans.specs.declared.fault.Fault.{Fault}
 use Rattle.plans.specs.declared.line.Line.{Line}
 use Rattle.stalling.specs.Draws.{done_by, draw_text, idle_of}
@@ -28,6 +29,10 @@ stopped_text draws idle left =
 -- the last line: how many draws there were, how many of them were idle, and what is left, if anything is
 abbrev pub last_line : ℕ → ℕ → ℕ → List ℕ
 last_line draws idle left = cond (left == 0) (done_text draws idle) (stopped_text draws idle left)
+
+-- how a run is told: its draws, and what they come to
+abbrev pub run_text : Run → List ℕ
+run_text r = told_draws (vec_items r.draws) ++ last_line (vec_len r.draws) r.idle r.left
 
 -- the draws of an item of that cost, and what they come to
 abbrev pub listing : List Draw → ℕ → List ℕ

@@ -24,6 +24,7 @@ pub fn play<S: Server>(heap: Global, server: &mut S, cost: u32) -> Result<Run, A
     let mut draws = Vec::new(heap);
     let mut idle = 0;
     let mut left = cost;
+    // a draw is told with its number, so the loop counts them
     for number in 0..MOST {
         if left == 0 {
             break;

@@ -30,44 +30,21 @@ mod tests {
         },
     }
 
-    fn put(group: u8, class: u8, tag: u64) -> Step {
+    fn put(group: u8, class: u8, tag: u64, done: bool) -> Step {
         Step::Put {
             group,
             class,
             tag,
-            done: true,
+            done,
         }
     }
 
-    fn no_put(group: u8, class: u8, tag: u64) -> Step {
-        Step::Put {
-            group,
-            class,
-            tag,
-            done: false,
-        }
+    fn least(group: u8, least: Option<(u8, u64)>) -> Step {
+        Step::Least { group, least }
     }
 
-    fn least(group: u8, class: u8, tag: u64) -> Step {
-        Step::Least {
-            group,
-            least: Some((class, tag)),
-        }
-    }
-
-    fn no_least(group: u8) -> Step {
-        Step::Least { group, least: None }
-    }
-
-    fn take(class: u8, tag: u64) -> Step {
-        Step::Take {
-            class,
-            tag: Some(tag),
-        }
-    }
-
-    fn no_take(class: u8) -> Step {
-        Step::Take { class, tag: None }
+    fn take(class: u8, tag: Option<u64>) -> Step {
+        Step::Take { class, tag }
     }
 
     fn answers<T: TagStore>(store: &mut T, step: Step) -> bool {
@@ -79,19 +56,9 @@ mod tests {
                 done,
             } => store.put(group, class, Parts::new(tag)) == done,
             Step::Least { group, least } => {
-                let found = match store.least(group) {
-                    Some((class, tag)) => Some((class, tag.get())),
-                    None => None,
-                };
-                found == least
+                store.least(group).map(|(class, tag)| (class, tag.get())) == least
             }
-            Step::Take { class, tag } => {
-                let found = match store.take(class) {
-                    Some(tag) => Some(tag.get()),
-                    None => None,
-                };
-                found == tag
-            }
+            Step::Take { class, tag } => store.take(class).map(Parts::get) == tag,
         }
     }
 
@@ -113,27 +80,27 @@ mod tests {
         drive_both(
             &rt,
             &[
-                no_least(0),
-                no_least(63),
-                no_least(64),
-                no_least(255),
-                no_take(0),
-                no_take(64),
-                no_take(255),
-                no_put(64, 0, 1),
-                no_put(0, 64, 1),
-                no_put(255, 255, 0),
-                no_put(63, 255, 0),
-                no_put(255, 63, 0),
-                put(63, 63, LAST),
-                no_put(63, 64, 0),
-                no_put(64, 63, 0),
-                least(63, 63, LAST),
-                no_least(64),
-                no_least(0),
-                no_take(64),
-                take(63, LAST),
-                no_least(63),
+                least(0, None),
+                least(63, None),
+                least(64, None),
+                least(255, None),
+                take(0, None),
+                take(64, None),
+                take(255, None),
+                put(64, 0, 1, false),
+                put(0, 64, 1, false),
+                put(255, 255, 0, false),
+                put(63, 255, 0, false),
+                put(255, 63, 0, false),
+                put(63, 63, LAST, true),
+                put(63, 64, 0, false),
+                put(64, 63, 0, false),
+                least(63, Some((63, LAST))),
+                least(64, None),
+                least(0, None),
+                take(64, None),
+                take(63, Some(LAST)),
+                least(63, None),
             ],
         );
     }
@@ -144,45 +111,45 @@ mod tests {
         drive_both(
             &rt,
             &[
-                put(5, 63, LAST),
-                put(5, 8, LAST),
-                least(5, 8, LAST),
-                put(5, 40, 0),
-                least(5, 40, 0),
-                put(5, 7, 0),
-                least(5, 7, 0),
-                put(5, 50, 0),
-                least(5, 7, 0),
-                put(0, 0, 9),
-                put(0, 1, 8),
-                least(0, 1, 8),
-                no_put(0, 7, 3),
-                no_put(5, 7, 3),
-                no_put(6, 0, 0),
-                least(0, 1, 8),
-                least(5, 7, 0),
-                no_least(6),
-                take(7, 0),
-                no_take(7),
-                least(5, 40, 0),
-                put(0, 7, 8),
-                least(0, 1, 8),
-                take(1, 8),
-                least(0, 7, 8),
-                take(63, LAST),
-                take(40, 0),
-                least(5, 50, 0),
-                take(50, 0),
-                least(5, 8, LAST),
-                take(8, LAST),
-                no_least(5),
-                put(5, 8, 1),
-                least(5, 8, 1),
-                take(7, 8),
-                least(0, 0, 9),
-                take(0, 9),
-                no_least(0),
-                least(5, 8, 1),
+                put(5, 63, LAST, true),
+                put(5, 8, LAST, true),
+                least(5, Some((8, LAST))),
+                put(5, 40, 0, true),
+                least(5, Some((40, 0))),
+                put(5, 7, 0, true),
+                least(5, Some((7, 0))),
+                put(5, 50, 0, true),
+                least(5, Some((7, 0))),
+                put(0, 0, 9, true),
+                put(0, 1, 8, true),
+                least(0, Some((1, 8))),
+                put(0, 7, 3, false),
+                put(5, 7, 3, false),
+                put(6, 0, 0, false),
+                least(0, Some((1, 8))),
+                least(5, Some((7, 0))),
+                least(6, None),
+                take(7, Some(0)),
+                take(7, None),
+                least(5, Some((40, 0))),
+                put(0, 7, 8, true),
+                least(0, Some((1, 8))),
+                take(1, Some(8)),
+                least(0, Some((7, 8))),
+                take(63, Some(LAST)),
+                take(40, Some(0)),
+                least(5, Some((50, 0))),
+                take(50, Some(0)),
+                least(5, Some((8, LAST))),
+                take(8, Some(LAST)),
+                least(5, None),
+                put(5, 8, 1, true),
+                least(5, Some((8, 1))),
+                take(7, Some(8)),
+                least(0, Some((0, 9))),
+                take(0, Some(9)),
+                least(0, None),
+                least(5, Some((8, 1))),
             ],
         );
     }
@@ -193,27 +160,27 @@ mod tests {
         drive_both(
             &rt,
             &[
-                put(2, 0, 1),
-                put(2, 1, 10),
-                put(2, 2, 2),
-                put(2, 3, 11),
-                put(2, 4, 12),
-                put(2, 5, 3),
-                put(2, 6, 4),
-                take(3, 11),
-                least(2, 0, 1),
-                take(0, 1),
-                least(2, 2, 2),
-                take(2, 2),
-                least(2, 5, 3),
-                take(5, 3),
-                least(2, 6, 4),
-                take(6, 4),
-                least(2, 1, 10),
-                take(1, 10),
-                least(2, 4, 12),
-                take(4, 12),
-                no_least(2),
+                put(2, 0, 1, true),
+                put(2, 1, 10, true),
+                put(2, 2, 2, true),
+                put(2, 3, 11, true),
+                put(2, 4, 12, true),
+                put(2, 5, 3, true),
+                put(2, 6, 4, true),
+                take(3, Some(11)),
+                least(2, Some((0, 1))),
+                take(0, Some(1)),
+                least(2, Some((2, 2))),
+                take(2, Some(2)),
+                least(2, Some((5, 3))),
+                take(5, Some(3)),
+                least(2, Some((6, 4))),
+                take(6, Some(4)),
+                least(2, Some((1, 10))),
+                take(1, Some(10)),
+                least(2, Some((4, 12))),
+                take(4, Some(12)),
+                least(2, None),
             ],
         );
     }

@@ -1,7 +1,8 @@
 -- What users of a store learn from its contracts, and what implementations owe. Assumes nothing.
-use Rattle.std.proofs.Common.{◌≡◌, ℕ, zero, suc, ◌<◌, Bool, true, cond, eqb, ltb, Some, None, Option, sym, refl, ap, ◌∙◌, subst, inl, inr, ⊎_elim, arith}
+use Rattle.std.proofs.Common.{◌≡◌, ℕ, zero, suc, ◌<◌, ◌≤◌, Bool, true, cond, eqb, ltb, Some, None, Option, sym, refl, ap, ◌∙◌, subst, inl, inr, ⊎_elim, arith}
 use mathlib.Core.Path.{fun_ext}
 use Rattle.std.proofs.lemmas.Bool.{lt-ltb, eq-eqb, ne_eqb, cases_lt, cases_eq, cases_Bool, ltb-true, ltb-false, eqb-true, eqb-false}
+use Rattle.std.proofs.lemmas.Option.{none-some, some_pair_parts}
 use Rattle.base.specs.declared.units.Parts.{Parts}
 use Rattle.tags.specs.Held.{Held, with, may_put, free, among, least_of, lower, better, Looks}
 
@@ -27,33 +28,31 @@ put_done h h' g c t r answer after gl cl none =
     let yes' : r ≡ true = rw (a, b, f) at answer in
     rw yes' at after
 
--- group and tag of a pair (`cc` does not take pairs apart)
-abbrev group_or : Option (ℕ × Parts) → ℕ
-group_or None = 0
-group_or (Some p) = p.0
-
-abbrev tag_or : Option (ℕ × Parts) → ℕ
-tag_or None = 0
-tag_or (Some p) = p.1.0
-
 pub some_tag : (o : Option (ℕ × Parts)) (f g : ℕ) (t u : Parts) → o ≡ Some (f, t) → o ≡ Some (g, u) → u.0 ≡ t.0
-some_tag o f g t u p q = ap tag_or (sym q ∙ p)
+some_tag o f g t u p q = ap (λ v. v.0) (some_pair_parts g f u t (sym q ∙ p)).1
 
 pub some_group : (o : Option (ℕ × Parts)) (f g : ℕ) (t u : Parts) → o ≡ Some (f, t) → o ≡ Some (g, u) → f ≡ g
-some_group o f g t u p q = ap group_or (sym p ∙ q)
+some_group o f g t u p q = (some_pair_parts f g t u (sym p ∙ q)).0
 
 pub none_some : (o : Option (ℕ × Parts)) (g : ℕ) (u : Parts) → o ≡ None → o ≡ Some (g, u) → ⊥
-none_some o g u p q = let z : ◌≡◌ {A = ℕ} 0 1 = cc in omega arith
+none_some o g u p q = none-some (g, u) (sym p ∙ q)
 
 module _ (h : Held) (g : ℕ) where
+  -- what holds of the classes below n that stand in the group, and of n if it does, holds of those below n + 1
+  stands_more : (P : ℕ → Parts → Type 0) (n : ℕ) → ((k : ℕ) (u : Parts) → k < n → h k ≡ Some (g, u) → P k u) → ((u : Parts) → h n ≡ Some (g, u) → P n u) → (k : ℕ) (u : Parts) → k < suc n → h k ≡ Some (g, u) → P k u
+  stands_more P n below last k u l e = elim (cases_lt k n) [
+    | inl low ↦ below k u low e
+    | inr high ↦ let s : k ≡ n = omega arith in subst (λ i. P i u) (sym s) (last u (subst (λ i. h i ≡ Some (g, u)) s e))
+  ]
+
   -- class n is not in the group
   looks_pass : (n : ℕ) → ((u : Parts) → h n ≡ Some (g, u) → ⊥) → (best : Option (ℕ × Parts)) → Looks h g n best → Looks h g (suc n) best
-  looks_pass n not None was = λ k u l e. ⊎_elim (λ b. was k u b e) (λ b. let s : k ≡ n = omega arith in not u (subst (λ i. h i ≡ Some (g, u)) s e)) (cases_lt k n)
+  looks_pass n not None was = stands_more (λ k u. ⊥) n was not
   looks_pass n not (Some b) was = record {
     stands = was.stands;
     known = let w = was.known in omega arith;
-    least = λ k u l e. ⊎_elim (λ i. was.least k u i e) (λ i. let s : k ≡ n = omega arith in absurd (not u (subst (λ i. h i ≡ Some (g, u)) s e))) (cases_lt k n);
-    first = λ k u l e. ⊎_elim (λ i. was.first k u i e) (λ i. let s : k ≡ n = omega arith in absurd (not u (subst (λ i. h i ≡ Some (g, u)) s e))) (cases_lt k n);
+    least = stands_more (λ k u. b.1.0 ≤ u.0) n was.least (λ u e. absurd (not u e));
+    first = stands_more (λ k u. u.0 ≡ b.1.0 → b.0 ≤ k) n was.first (λ u e. absurd (not u e));
   }
 
   -- class n is in the group with tag t
@@ -61,22 +60,22 @@ module _ (h : Held) (g : ℕ) where
   looks_more n t here None was = record {
     stands = here;
     known = omega arith;
-    least = λ k u l e. ⊎_elim (λ i. absurd (was k u i e)) (λ i. let s : k ≡ n = omega arith in let v = some_tag (h n) g g t u here (subst (λ i. h i ≡ Some (g, u)) s e) in omega arith) (cases_lt k n);
-    first = λ k u l e _. ⊎_elim (λ i. absurd (was k u i e)) (λ i. i) (cases_lt k n);
+    least = stands_more (λ k u. t.0 ≤ u.0) n (λ k u l e. absurd (was k u l e)) (λ u e. let v = some_tag (h n) g g t u here e in omega arith);
+    first = stands_more (λ k u. u.0 ≡ t.0 → n ≤ k) n (λ k u l e. absurd (was k u l e)) (λ u e q. omega arith);
   }
   looks_more n t here (Some b) was =
       ⊎_elim
       (λ c. let d = ltb-true t.0 b.1.0 c in rw c (record {
         stands = here;
         known = omega arith;
-        least = λ k u l e. ⊎_elim (λ i. let w = was.least k u i e in omega arith) (λ i. let s : k ≡ n = omega arith in let v = some_tag (h n) g g t u here (subst (λ i. h i ≡ Some (g, u)) s e) in omega arith) (cases_lt k n);
-        first = λ k u l e q. ⊎_elim (λ i. let w = was.least k u i e in omega arith) (λ i. i) (cases_lt k n);
+        least = stands_more (λ k u. t.0 ≤ u.0) n (λ k u l e. let w = was.least k u l e in omega arith) (λ u e. let v = some_tag (h n) g g t u here e in omega arith);
+        first = stands_more (λ k u. u.0 ≡ t.0 → n ≤ k) n (λ k u l e q. let w = was.least k u l e in omega arith) (λ u e q. omega arith);
       }))
       (λ c. let d = ltb-false t.0 b.1.0 c in rw c (record {
         stands = was.stands;
         known = let w = was.known in omega arith;
-        least = λ k u l e. ⊎_elim (λ i. was.least k u i e) (λ i. let s : k ≡ n = omega arith in let v = some_tag (h n) g g t u here (subst (λ i. h i ≡ Some (g, u)) s e) in omega arith) (cases_lt k n);
-        first = λ k u l e q. ⊎_elim (λ i. was.first k u i e q) (λ i. let w = was.known in omega arith) (cases_lt k n);
+        least = stands_more (λ k u. b.1.0 ≤ u.0) n was.least (λ u e. let v = some_tag (h n) g g t u here e in omega arith);
+        first = stands_more (λ k u. u.0 ≡ b.1.0 → b.0 ≤ k) n was.first (λ u e q. let w = was.known in omega arith);
       }))
       (cases_Bool (ltb t.0 b.1.0))
 

@@ -1,8 +1,10 @@
-//! Tag stores: which class stands in which group, with which tag, and what is least there.
+//! Tag stores: which class stands in which group, with which tag, and what is least there. Classes and groups have numbers from 0 to 63.
 #![tactic(auto)]
 
 ghost use Rattle.std.specs.Prelude.{◌≡◌, if◌then◌else◌, Some, None};
 ghost use Rattle.tags.specs.Held.{Held, Small, nothing, with, tag_of, may_put, least_of, Looks};
+
+pub mod number;
 
 use base::units::Parts;
 

@@ -1,31 +1,43 @@
--- A loop that looks for a byte, and one that tests each.
-use Rattle.std.proofs.Common.{◌≡◌, ℕ, zero, suc, ◌+◌, ◌-◌, ◌<◌, ◌≤◌, true, false, List, [], ◌∷◌, ◌++◌, length, get_or, take, drop, Ok, Err, IsUtf8, IsAscii, Decides, Option, Result, sym, refl, ap, ◌∙◌, subst, ⊎_elim, arith, Bor}
-use native.Mathlib.Nat.{sub-zero}
-use Rattle.std.specs.Option as options
-use Rattle.std.specs.Result as results
-use Rattle.std.specs.Result.{result_ok}
-use Rattle.std.specs.List.{AllByRecursion}
-use Rattle.std.proofs.ByRecursion.{All-get_or}
-use Rattle.std.proofs.lemmas.List.{take-append-drop, drop_more, take_rest, take_all}
+-- The first byte that cuts a text, and what the test of a word tells.
+use Rattle.std.proofs.Common.{◌≡◌, ℕ, zero, suc, ◌+◌, ◌-◌, ◌<◌, ◌≤◌, leb, Bool, true, false, List, [], ◌∷◌, ◌++◌, length, take, drop, Some, IsUtf8, IsAscii, Decides, Option, MatchOption, ◌==◌, sym, refl, ap, ◌∙◌, subst, ⊎_elim, arith, Bor}
+use Rattle.std.specs.Bool.{then_some}
+use Rattle.std.specs.List.{AllByRecursion, list_all, position}
+use Rattle.std.proofs.ByRecursion.{All-from_get_or}
+use Rattle.std.proofs.lemmas.Bool.{true≢false, eqb-true, eq-eqb}
+use Rattle.std.proofs.lemmas.Bool.Decides.{Decides-and, Decides-like, not_from_Decides, nat_tests}
+use Rattle.std.proofs.lemmas.List.{take-append-drop, drop_more, take_rest, get_or-take, length-take-le}
+use Rattle.std.proofs.lemmas.List.Quantifiers.{position-Some}
 use Rattle.std.proofs.lemmas.Str.{IsUtf8-from_ascii}
+use Rattle.base.specs.Words.{plain, is_word}
 use Rattle.text.specs.Words.{Free, Plain, Word}
 
--- the byte at i cuts the list, if it is the first of its kind
-pub found : (bs : List ℕ) (i at : ℕ) → i < length bs → get_or bs i 0 ≡ at → Free at (take i bs) → Free at (take (i - 0) bs) × (bs ≡ take (i - 0) bs ++ at ∷ take (length bs - (i + 1)) (drop (i + 1) bs))
-found bs i at h e free = rw (sub-zero, take_rest) (free, sym (take-append-drop i bs) ∙ ap (λ l. take i bs ++ l) (drop_more bs i 0 h ∙ ap (λ x. x ∷ drop (i + 1) bs) e))
+-- the first byte of its kind cuts the list
+pub found : (bs : List ℕ) (i at : ℕ) → position (λ b. b == at) bs ≡ Some i → Free at (take i bs) × (bs ≡ take i bs ++ at ∷ take (length bs - (i + 1)) (drop (i + 1) bs))
+found bs i at p =
+    let first = position-Some (λ b. b == at) bs i 0 p in
+    let free : Free at (take i bs) = All-from_get_or _ (take i bs) 0 (λ k h e.
+    let low : k < i = omega (arith, length-take-le i bs (omega (arith, first.0))) in
+    absurd (true≢false (sym (eq-eqb _ _ (sym (get_or-take i bs k 0 low) ∙ e)) ∙ first.2 k low))) in
+    rw take_rest (free, sym (take-append-drop i bs) ∙ ap (λ l. take i bs ++ l) (drop_more bs i 0 first.0 ∙ ap (λ x. x ∷ drop (i + 1) bs) (eqb-true _ _ first.1)))
 
--- what holds of each that the loop passed holds of all at its end
-pub whole : (P : ℕ → Type 0) (bs : List ℕ) (i : ℕ) → length bs ≤ i → AllByRecursion P (take i bs) → AllByRecursion P bs
-whole P bs i h all = subst (AllByRecursion P) (take_all i bs h) all
+-- the test of the bytes of a word, and of a word
+plain_told : (b : ℕ) → Decides (plain b) (Plain b)
+plain_told b = grind (arith, nat_tests)
 
-pub no_word : (bs : List ℕ) (i : ℕ) → i < length bs → (Plain (get_or bs i 0) → ⊥) → Decides false (Word bs)
-no_word bs i h not = (λ e. absurd (let z : ◌≡◌ {A = ℕ} 0 1 = cc in omega arith), λ w. absurd (not (All-get_or Plain bs i 0 h w.plain)))
+at_most_told : (a b : ℕ) → Decides (leb a b) (a ≤ b)
+at_most_told a b = grind (arith, nat_tests)
 
-pub a_word : (bs : List ℕ) → Word bs → Decides true (Word bs)
-a_word bs w = (λ _. w, λ _. refl)
+all_told : (bs : List ℕ) → Decides (list_all plain bs) (AllByRecursion Plain bs)
+all_told [] = (λ _. tt, λ _. refl)
+all_told (b ∷ bs) = Decides-and _ _ (plain_told b) (all_told bs)
+
+word_told : (bs : List ℕ) → Decides (is_word 10 bs) (Word bs)
+word_told bs =
+    Decides-like _ (λ q. record { some = q.0; short = q.1.0; plain = q.1.1 }) (λ w. (w.some, (w.short, w.plain)))
+    (Decides-and _ _ (at_most_told 1 (length bs)) (Decides-and _ _ (at_most_told (length bs) 10) (all_told bs)))
 
 -- a word is text
-word_utf8 : (bs : List ℕ) → Word bs → IsUtf8 bs
+pub word_utf8 : (bs : List ℕ) → Word bs → IsUtf8 bs
 word_utf8 bs w = IsUtf8-from_ascii bs (low bs w.plain)
   where
     low : (cs : List ℕ) → AllByRecursion Plain cs → IsAscii cs
@@ -33,6 +45,6 @@ word_utf8 bs w = IsUtf8-from_ascii bs (low bs w.plain)
     low (c ∷ cs) h zero = ⊎_elim (λ q. omega (arith, q.1)) (λ q. omega (arith, q.1)) h.0
     low (c ∷ cs) h (suc i) = low cs h.1 i
 
-pub as_text : {E : Type 0} (X : E → Type 0) (bs : List ℕ) (r : Result (Bor (List ℕ)) E) (o : Option (Bor (List ℕ))) → o ≡ result_ok r → results.MatchResult r (λ s. (s.now ≡ bs) × IsUtf8 bs) (λ e. (IsUtf8 bs → ⊥) × X e) → Word bs → options.MatchOption o (Word bs → ⊥) (λ s. Word s.now × (s.now ≡ bs))
-as_text X bs (Ok s) o e h w = rw e (subst Word (sym h.0) w, h.0)
-as_text X bs (Err d) o e h w = absurd (h.0 (word_utf8 bs w))
+pub as_word : (bs : List ℕ) (s : Bor (List ℕ)) (t : Bool) (o : Option (Bor (List ℕ))) → s.now ≡ bs → t ≡ is_word 10 bs → o ≡ then_some t s → MatchOption o (Word bs → ⊥) (λ w. Word w.now × (w.now ≡ bs))
+as_word bs s true o same test e = rw e (subst Word (sym same) ((word_told bs).0 (sym test)), same)
+as_word bs s false o same test e = rw e (not_from_Decides _ (word_told bs) (sym test))

@@ -1,6 +1,8 @@
 -- Which line some words are, and that no other is.
-use Rattle.std.proofs.Common.{◌≡◌, ℕ, ◌+◌, ◌<◌, cond, eqb, List, [], ◌∷◌, ◌++◌, length, get_or, sym, refl, ap, ◌∙◌, ⊎_elim, append-nil, arith, length-append}
+use Rattle.std.proofs.Common.{◌≡◌, ℕ, ◌+◌, ◌<◌, Bool, true, false, not, cond, eqb, Option, Some, None, MatchOption, is_some, Bor, List, [], ◌∷◌, ◌++◌, length, sym, refl, ap, ◌∙◌, ⊎_elim, append-nil, arith, length-append}
+use Rattle.std.specs.Bool.{then_some}
 use Rattle.std.specs.List.{AllByRecursion}
+use Rattle.std.proofs.lemmas.Bool.{true≢false}
 use Rattle.std.proofs.lemmas.Fmt.{digits_decimal}
 use Rattle.std.proofs.ByRecursion.{All-weaker, All-from_get_or}
 use Rattle.std.proofs.lemmas.List.{nil_from_length}
@@ -20,11 +22,6 @@ heads x y xs ys e = cc
 
 pub tails : {X : Type 0} (x y : X) (xs ys : List X) → x ∷ xs ≡ y ∷ ys → xs ≡ ys
 tails x y xs ys e = cc
-
-pub single : (w : List ℕ) (k : ℕ) (ws rest : List (List ℕ)) → ws ≡ w ∷ rest → length w ≡ 1 → k ≡ get_or w 0 0 → ws ≡ (k ∷ []) ∷ rest
-single [] k ws rest e h f = absurd (omega arith)
-single (x ∷ []) k ws rest e h f = e ∙ ap (λ y. (y ∷ []) ∷ rest) (sym f)
-single (x ∷ y ∷ w) k ws rest e h f = absurd (omega arith)
 
 -- no word holds a space or a line end
 module _ (b : ℕ) (low : b < 48) where
@@ -73,8 +70,9 @@ count (event Pulse) = refl
 count (event End) = refl
 count (event GiveUp) = refl
 
-pub no_letter : (bs : List ℕ) → ((k : ℕ) (ws : List (List ℕ)) → splits bs ≡ (k ∷ []) ∷ ws → ⊥) → (l : Line) → Proper l → written l ≡ bs → ⊥
-no_letter bs none l p e = none (initial l) (fields l) (ap splits (sym e) ∙ splits_written l p)
+-- a first word of one letter
+pub lettered : (bs : List ℕ) (w : List ℕ) (k : ℕ) (ws rest : List (List ℕ)) → ws ≡ splits bs → ws ≡ w ∷ rest → w ≡ k ∷ [] → splits bs ≡ (k ∷ []) ∷ rest
+lettered bs w k ws rest all first one = sym all ∙ first ∙ ap (λ v. v ∷ rest) one
 
 module _ (bs : List ℕ) (k : ℕ) (rest : List (List ℕ)) (cut : splits bs ≡ (k ∷ []) ∷ rest) where
   same : (l : Line) → Proper l → written l ≡ bs → (initial l ≡ k) × (fields l ≡ rest)
@@ -97,44 +95,9 @@ module _ (bs : List ℕ) (k : ℕ) (rest : List (List ℕ)) (cut : splits bs ≡
   whole_line m more i f none =
       ap spaced ((λ j. (i j ∷ []) ∷ sym (f ∙ ap (λ z. fields m ++ z) none ∙ append-nil (fields m)) j) ∙ sym cut) ∙ spaced_splits bs
 
--- the letter says which words follow
-module _ (k : ℕ) (ws : List (List ℕ)) where
-  pub only_class : k ≡ 99 → ((n p : List ℕ) (w : ℕ) (us : List (List ℕ)) → Word n → Word p → Small w → ws ≡ n ∷ p ∷ numeral w ∷ us → ⊥) → (l : Line) (us : List (List ℕ)) → Proper l → initial l ≡ k → ws ≡ fields l ++ us → ⊥
-  only_class e h (Class n p w) us q i f = h n.now p.now w us q.0 q.1 q.2 f
-  only_class e h (Link r) us q i f = omega arith
-  only_class e h (Outage o j) us q i f = omega arith
-  only_class e h (event (Submit n c)) us q i f = omega arith
-  only_class e h (event Dispatch) us q i f = omega arith
-  only_class e h (event Pulse) us q i f = omega arith
-  only_class e h (event End) us q i f = omega arith
-  only_class e h (event GiveUp) us q i f = omega arith
-
-  pub only_link : k ≡ 108 → ((r : ℕ) (us : List (List ℕ)) → Small r → ws ≡ numeral r ∷ us → ⊥) → (l : Line) (us : List (List ℕ)) → Proper l → initial l ≡ k → ws ≡ fields l ++ us → ⊥
-  only_link e h (Class n p w) us q i f = omega arith
-  only_link e h (Link r) us q i f = h r us q f
-  only_link e h (Outage o j) us q i f = omega arith
-  only_link e h (event (Submit n c)) us q i f = omega arith
-  only_link e h (event Dispatch) us q i f = omega arith
-  only_link e h (event Pulse) us q i f = omega arith
-  only_link e h (event End) us q i f = omega arith
-  only_link e h (event GiveUp) us q i f = omega arith
-
-  pub only_outage : k ≡ 111 → ((o j : ℕ) (us : List (List ℕ)) → Small o → Small j → ws ≡ numeral o ∷ numeral j ∷ us → ⊥) → (l : Line) (us : List (List ℕ)) → Proper l → initial l ≡ k → ws ≡ fields l ++ us → ⊥
-  only_outage e h (Class n p w) us q i f = omega arith
-  only_outage e h (Link r) us q i f = omega arith
-  only_outage e h (Outage o j) us q i f = h o j us q.0 q.1 f
-  only_outage e h (event (Submit n c)) us q i f = omega arith
-  only_outage e h (event Dispatch) us q i f = omega arith
-  only_outage e h (event Pulse) us q i f = omega arith
-  only_outage e h (event End) us q i f = omega arith
-  only_outage e h (event GiveUp) us q i f = omega arith
-
-  pub only_submit : k ≡ 97 → ((n : List ℕ) (c : ℕ) (us : List (List ℕ)) → Word n → Small c → ws ≡ n ∷ numeral c ∷ us → ⊥) → (l : Line) (us : List (List ℕ)) → Proper l → initial l ≡ k → ws ≡ fields l ++ us → ⊥
-  only_submit e h (Class n p w) us q i f = omega arith
-  only_submit e h (Link r) us q i f = omega arith
-  only_submit e h (Outage o j) us q i f = omega arith
-  only_submit e h (event (Submit n c)) us q i f = h n.now c us q.0 q.1 f
-  only_submit e h (event Dispatch) us q i f = omega arith
-  only_submit e h (event Pulse) us q i f = omega arith
-  only_submit e h (event End) us q i f = omega arith
-  only_submit e h (event GiveUp) us q i f = omega arith
+  -- the line stands where no word is left behind its form
+  pub ended : (m : Line) (more behind : List (List ℕ)) (o : Option (Bor (List ℕ))) (none : Bool) (r : Option Line) → Proper m → initial m ≡ k → rest ≡ fields m ++ more → MatchOption o (more ≡ []) (λ w. more ≡ w.now ∷ behind) → is_some o ≡ not none → r ≡ then_some none m → MatchOption r ((l : Line) → Proper l → written l ≡ bs → ⊥) (λ l. Proper l × (written l ≡ bs))
+  ended m more behind None true r p i f e s t = rw t (p, whole_line m more i f e)
+  ended m more behind None false r p i f e s t = absurd (true≢false (sym s))
+  ended m more behind (Some w) true r p i f e s t = absurd (true≢false s)
+  ended m more behind (Some w) false r p i f e s t = rw t (no_end m more i f (λ z. let z : ◌≡◌ {A = ℕ} 0 1 = cc in omega arith))

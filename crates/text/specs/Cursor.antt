@@ -1,19 +1,14 @@
 -- What a reader of words has yet to read.
-use Rattle.std.specs.Prelude.{◌≡◌, ℕ, cond, List, [], ◌∷◌, ◌++◌, Some, None, Option, MatchOption, ◌==◌, ◌≢◌}
+use Rattle.std.specs.Prelude.{◌≡◌, ℕ, List, [], ◌++◌, Some, None, Option, MatchOption, ◌==◌, ◌≢◌}
 use Rattle.std.specs.Borrow.{Bor}
+use Rattle.std.specs.List.{slice_split}
 use Rattle.text.specs.declared.line.Line.{Line}
 use Rattle.text.specs.declared.read.Words.{Words}
 use Rattle.text.specs.Lines.{Proper, initial, fields}
 
--- the first word with a byte in front
-abbrev pub onto : ℕ → List (List ℕ) → List (List ℕ)
-onto b [] = (b ∷ []) ∷ []
-onto b (w ∷ ws) = (b ∷ w) ∷ ws
-
 -- the words that bytes hold between single spaces
 abbrev pub splits : List ℕ → List (List ℕ)
-splits [] = [] ∷ []
-splits (b ∷ bs) = cond (b == 32) ([] ∷ splits bs) (onto b (splits bs))
+splits bs = slice_split (λ b. b == 32) bs
 
 abbrev pub after : Option (Bor (List ℕ)) → List (List ℕ)
 after None = []

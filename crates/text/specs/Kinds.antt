@@ -1,8 +1,7 @@
 -- The first line of a trace.
-use Rattle.std.specs.Prelude.{◌≡◌, ℕ, List, ◌∷◌, ◌++◌, codes, Option, Result, ◌≢◌}
+use Rattle.std.specs.Prelude.{◌≡◌, ℕ, List, ◌∷◌, ◌++◌, codes, Result, ◌≢◌}
 use Rattle.base.specs.declared.refusal.Refusal.{Refusal}
 use Rattle.base.specs.declared.refusal.Refusal.TheVariants.{BadFirstLine}
-use Rattle.std.specs.Option as options
 use Rattle.std.specs.Result as results
 use Rattle.text.specs.declared.kind.Kind.{Kind}
 use Rattle.text.specs.declared.kind.Kind.TheVariants.{Quantum, Block}
@@ -22,10 +21,6 @@ Untitled bs = (k : Kind) (more : List ℕ) → title k ++ 10 ∷ more ≢ bs
 abbrev pub Titled : List ℕ → Kind × Lines → Type 0
 Titled bs p = title p.0 ++ 10 ∷ rest p.1 ≡ bs
 
--- r is the kind of the first line with what follows it, if there is such a line
-abbrev pub Opens : List ℕ → Option (Kind × Lines) → Type 0
-Opens bs r = options.MatchOption r (Untitled bs) (Titled bs)
-
--- .. or else the refusal
+-- r is the kind of the first line with what follows it, or the refusal where there is no such line
 abbrev pub Begins : List ℕ → Result (Kind × Lines) Refusal → Type 0
 Begins bs r = results.MatchResult r (Titled bs) (λ e. (e ≡ BadFirstLine) × Untitled bs)

@@ -1,5 +1,6 @@
 -- The lines of a trace after its first, and how each is written.
-use Rattle.std.specs.Prelude.{◌≡◌, ℕ, List, [], ◌∷◌, ◌++◌, Result, MatchResult, ◌≢◌}
+use Rattle.std.specs.Prelude.{◌≡◌, ℕ, List, [], ◌∷◌, Result, MatchResult, ◌≢◌}
+use Rattle.std.specs.List.{join_with_byte}
 use Rattle.base.specs.declared.refusal.Refusal.{Refusal}
 use Rattle.base.specs.declared.refusal.Refusal.TheVariants.{BadLine}
 use Rattle.text.specs.Words.{Word, Small, numeral}
@@ -31,9 +32,7 @@ fields (event GiveUp) = []
 
 -- words with one space between them
 abbrev pub spaced : List (List ℕ) → List ℕ
-spaced [] = []
-spaced (w ∷ []) = w
-spaced (w ∷ v ∷ ws) = w ++ 32 ∷ spaced (v ∷ ws)
+spaced ws = join_with_byte 32 ws
 
 -- the bytes of a line, without its line end
 abbrev pub written : Line → List ℕ

@@ -1,15 +1,17 @@
 //! Reading a line.
-ghost use Rattle.std.specs.Prelude.{◌≡◌, ℕ, List, [], ◌∷◌, MatchOption, ◌≢◌};
+ghost use Rattle.std.specs.Prelude.{◌≡◌, ℕ, List, [], ◌∷◌, length, MatchOption, ◌≢◌};
+ghost use Rattle.std.specs.Iterator.{at_most};
 ghost use Rattle.text.specs.declared.line.Line.{Line as AnyLine};
 ghost use Rattle.text.specs.Words.{Word, Small, numeral};
 ghost use Rattle.text.specs.Lines.{Proper, Reads, written};
 ghost use Rattle.text.specs.Cursor.{left, splits, Formed};
 
 use crate::line::{Event, Line};
-use crate::word::{cut, number, word};
+use crate::word::{cut, letter, number, word};
 use base::refusal::Refusal;
 
 /// The words of a line that are still to be read.
+// Not the library's `split`: the type of its closure would be a parameter of all that reads words.
 #[derive(Drop)]
 struct Words<'a> {
     rest: Option<&'a [u8]>,
@@ -20,32 +22,6 @@ impl<'a> Words<'a> {
         ensures { left result ≡ splits line.now }
     {
         Words { rest: Some(line) }
-    }
-
-    fn next(&mut self) -> Option<&'a [u8]>
-        ensures { MatchOption result (left self.old ≡ []) (λ w. left self.old ≡ w.now ∷ left self.new) }
-    {
-        let line = self.rest?;
-        match cut(line, b' ') {
-            Some((word, rest)) => {
-                self.rest = Some(rest);
-                Some(word)
-            }
-            None => {
-                self.rest = None;
-                Some(line)
-            }
-        }
-    }
-
-    /// The next word, as the one letter that it is.
-    fn letter(&mut self) -> Option<char>
-        ensures { MatchOption result ((k : ℕ) (ws : List (List ℕ)) → left self.old ≢ (k ∷ []) ∷ ws) (λ k. left self.old ≡ (k ∷ []) ∷ left self.new) }
-    {
-        match self.next()? {
-            [byte] => Some(char::from(*byte)),
-            _ => None,
-        }
     }
 
     /// The next word, if it may be a name.
@@ -61,14 +37,23 @@ impl<'a> Words<'a> {
     {
         number(self.next()?)
     }
+}
 
-    /// Nothing where a word is left.
-    fn end(&self) -> Option<()>
-        ensures { MatchOption result (left self.now ≢ []) (λ _. left self.now ≡ []) }
-    {
-        match self.rest {
-            Some(_) => None,
-            None => Some(()),
+impl<'a> Iterator for Words<'a> {
+    type Item = &'a [u8];
+
+    ghost next_gives = { λ s r t. MatchOption r (left s ≡ []) (λ w. left s ≡ w.now ∷ left t) };
+
+    ghost remaining = { λ s. at_most (length (left s)) };
+
+    fn next(&mut self) -> Option<&'a [u8]> {
+        let line = self.rest.take()?;
+        match cut(line, b' ') {
+            Some((word, rest)) => {
+                self.rest = Some(rest);
+                Some(word)
+            }
+            None => Some(line),
         }
     }
 }
@@ -77,6 +62,7 @@ impl<'a> Words<'a> {
 fn form<'a>(letter: char, words: &mut Words<'a>) -> Option<Line<'a>>
     ensures { Formed letter (left words.old) result (left words.new) }
 {
+    // a match, and no table of closures: the letter names the form, and each form has its own words
     match letter {
         'c' => Some(Line::Class {
             name: words.name()?,
@@ -107,10 +93,9 @@ fn parse(bytes: &[u8]) -> Option<Line<'_>>
     ensures { MatchOption result ((l : AnyLine) → Proper l → written l ≢ bytes.now) (λ l. Proper l × (written l ≡ bytes.now)) }
 {
     let mut words = Words::new(bytes);
-    let letter = words.letter()?;
+    let letter = letter(words.next()?)?;
     let line = form(letter, &mut words)?;
-    words.end()?;
-    Some(line)
+    words.next().is_none().then_some(line)
 }
 
 /// The line that the bytes write, without its line end, or the refusal of bytes of another form.

@@ -1,50 +1,33 @@
-//! Words: names and numbers.
-ghost use Rattle.std.specs.Prelude.{◌≡◌, ℕ, ◌∷◌, ◌++◌, Decides, MatchOption, ◌≢◌};
-ghost use Rattle.text.specs.Words.{Word, Plain, Free, Small, numeral};
+//! Words: letters, names and numbers.
+ghost use Rattle.std.specs.Prelude.{◌≡◌, ℕ, [], ◌∷◌, ◌++◌, MatchOption, ◌≢◌};
+ghost use Rattle.text.specs.Words.{Word, Free, Small, numeral};
+
+use base::words::is_word;
 
 /// What stands before the first such byte, and what after it.
 pub fn cut(bytes: &[u8], at: u8) -> Option<(&[u8], &[u8])>
     ensures { MatchOption result (Free at bytes.now) (λ p. Free at p.0.now × (bytes.now ≡ p.0.now ++ at ∷ p.1.now)) }
 {
-    for (i, byte) in bytes.iter().enumerate() {
-        if *byte == at {
-            return Some((&bytes[0..i], &bytes[i + 1..]));
-        }
-    }
-    None
+    let i = bytes.iter().position(|byte| *byte == at)?;
+    Some((&bytes[..i], &bytes[i + 1..]))
 }
 
-/// Whether a byte is a to z or 0 to 9.
-fn is_plain(byte: u8) -> bool
-    ensures { Decides result (Plain byte) }
+/// The word as the one letter that it is.
+pub fn letter(word: &[u8]) -> Option<char>
+    ensures { MatchOption result ((k : ℕ) → word.now ≢ k ∷ []) (λ k. word.now ≡ k ∷ []) }
 {
-    matches!(byte, b'a'..=b'z' | b'0'..=b'9')
-}
-
-/// Whether the bytes are a word: 1 to 10 of them, each a to z or 0 to 9.
-fn is_word(bytes: &[u8]) -> bool
-    ensures { Decides result (Word bytes.now) }
-{
-    if bytes.is_empty() || bytes.len() > 10 {
-        return false;
+    match word {
+        [byte] => Some(char::from(*byte)),
+        _ => None,
     }
-    for byte in bytes {
-        if !is_plain(*byte) {
-            return false;
-        }
-    }
-    true
 }
 
 /// The bytes as a word, if they are one.
 pub fn word(bytes: &[u8]) -> Option<&str>
     ensures { MatchOption result (Word bytes.now → ⊥) (λ w. Word w.now × (w.now ≡ bytes.now)) }
 {
-    if is_word(bytes) {
-        std::str::from_utf8(bytes).ok()
-    } else {
-        None
-    }
+    let text = std::str::from_utf8(bytes).ok()?;
+    is_word::<10>(bytes).then_some(text)
 }
 
 /// The number that the bytes are the numeral of, if it fits 32 bits.

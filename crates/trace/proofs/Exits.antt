@@ -1,41 +1,44 @@
--- A result with its line, and the exit of a `?` on it.
-use Rattle.std.proofs.Common.{◌≡◌, ℕ, List, IsErrAnd, Ok, Err, Result, sym, refl, ap, ◌∙◌, subst, arith}
-use Rattle.std.proofs.lemmas.Result.{err_from_is_err_and}
+-- Results with their line, and what leaves the reader by a `?`.
+use Rattle.std.proofs.Common.{◌≡◌, ℕ, ◌<◌, ◌≤◌, List, length, IsErrAnd, Ok, Err, Result, MatchResult, sym, subst}
+use Rattle.std.specs.Prelude.{alloc_error}
+use Rattle.std.proofs.lemmas.Result.{err_from_is_err_and, MatchResult-weaker}
+use Rattle.base.specs.declared.refusal.Refusal.TheVariants.{TraceTooLong, BadFirstLine}
+use Rattle.text.specs.declared.kind.Kind.{Kind}
+use Rattle.text.specs.declared.lines.Lines.{Lines}
+use Rattle.text.specs.Kinds.{Titled, Untitled}
 use Rattle.trace.specs.declared.error.ReadError.{ReadError}
 use Rattle.trace.specs.declared.error.ReadError.TheVariants.{Fault as faulty, NoMemory}
 use Rattle.trace.specs.declared.fault.Fault.{Fault}
 use Rattle.trace.specs.declared.fault.Misread.{Misread}
 use Rattle.trace.specs.declared.trace.Trace.{Trace}
-use Rattle.trace.specs.Faults.{on, placed}
-use Rattle.trace.specs.Traces.{Told, Wanting, Judged}
+use Rattle.trace.specs.Faults.{misread, on, placed}
+use Rattle.trace.specs.Traces.{Told, too_long, untitled, Wanting, Judged}
 use Rattle.trace.proofs.Once.{told_once, told_not_written}
 
-module _ {X : Type 0} (n : ℕ) (r : Result X Misread) (s : Result X Fault) (is : s ≡ placed n r) where
-  -- the line came on the way: what was below it
-  pub was_ok : (x : X) → s ≡ Ok x → r ≡ Ok x
-  was_ok x e = go r (sym is ∙ e)
-    where
-      go : (q : Result X Misread) → placed n q ≡ Ok x → q ≡ Ok x
-      go (Ok y) h = let same : y ≡ x = cc in ap Ok same
-      go (Err m) h = absurd (let z : ◌≡◌ {A = ℕ} 0 1 = cc in omega arith)
+-- a result that tells the first fault, with its line
+module _ {X : Type 0} (P : X → Type 0) (bs : List ℕ) (n : ℕ) where
+  placed_told : (r : Result X Misread) → MatchResult r P (λ m. Told bs (on n m)) → MatchResult (placed n r) P (Told bs)
+  placed_told (Ok x) h = h
+  placed_told (Err m) h = h
 
-  pub was_err : (f : Fault) → s ≡ Err f → (m : Misread) × (r ≡ Err m) × (on n m ≡ f)
-  was_err f e = go r (sym is ∙ e)
-    where
-      go : (q : Result X Misread) → placed n q ≡ Err f → (m : Misread) × (q ≡ Err m) × (on n m ≡ f)
-      go (Ok y) h = absurd (let z : ◌≡◌ {A = ℕ} 0 1 = cc in omega arith)
-      go (Err m) h = let same : on n m ≡ f = cc in (m, refl, same)
+  pub lined : (r : Result X Misread) (s : Result X Fault) → s ≡ placed n r → MatchResult r P (λ m. Told bs (on n m)) → MatchResult s P (Told bs)
+  lined r s is h = rw is (placed_told r h)
 
-  -- a fault that leaves the reader
-  pub exit : (bs : List ℕ) (out : Result Trace ReadError) (f : Fault) → IsErrAnd out (λ y. y ≡ faulty f) → s ≡ Err f → ((m : Misread) → r ≡ Err m → Told bs (on n m)) → Judged bs out
-  exit bs out f by e told =
-      let last = err_from_is_err_and out by in
-      let bad = was_err f e in
-      let here : Told bs f = subst (Told bs) bad.2 (told bad.0 bad.1) in
-      rw (last.1, last.2) (record { told = here; only = λ g there. told_once bs g f there here; none = λ t. told_not_written bs f t here })
+-- .. as one on the length does, and one on the first line
+pub length_told : {X : Type 0} (bs : List ℕ) (r : Result X Misread) → MatchResult r (λ _. length bs ≤ 32768) (λ m. (m ≡ misread TraceTooLong) × (32768 < length bs)) → MatchResult r (λ _. length bs ≤ 32768) (λ m. Told bs (on 0 m))
+length_told bs r h = MatchResult-weaker r h (λ _ short. short) (λ m bad. subst (λ x. Told bs (on 0 x)) (sym bad.0) (too_long bad.1))
+
+pub title_told : (bs : List ℕ) (r : Result (Kind × Lines) Misread) → length bs ≤ 32768 → MatchResult r (Titled bs) (λ m. (m ≡ misread BadFirstLine) × Untitled bs) → MatchResult r (Titled bs) (λ m. Told bs (on 1 m))
+title_told bs r short h = MatchResult-weaker r h (λ _ titled. titled) (λ m bad. subst (λ x. Told bs (on 1 x)) (sym bad.0) (untitled short bad.1))
+
+-- a fault that leaves the reader
+pub exit : (bs : List ℕ) (out : Result Trace ReadError) (f : Fault) → IsErrAnd out (λ y. y ≡ faulty f) → Told bs f → Judged bs out
+exit bs out f by told =
+    let last = err_from_is_err_and out by in
+    rw (last.1, last.2) (record { told = told; only = λ g there. told_once bs g f there told; none = λ t. told_not_written bs f t told })
 
 -- want of memory that leaves the reader
-pub exit_wanting : (bs : List ℕ) (out : Result Trace ReadError) (e : ReadError) → IsErrAnd out (λ y. y ≡ e) → e ≡ NoMemory → Wanting bs → Judged bs out
-exit_wanting bs out e by is wanting =
+pub exit_wanting : (bs : List ℕ) (out : Result Trace ReadError) → IsErrAnd out (λ y. y ≡ NoMemory alloc_error) → Wanting bs → Judged bs out
+exit_wanting bs out by wanting =
     let last = err_from_is_err_and out by in
-    rw (last.1, last.2, is) wanting
+    rw (last.1, last.2) wanting

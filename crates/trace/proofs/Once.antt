@@ -128,7 +128,7 @@ not_fine ls d rest e m more (misplaced l more' cut' p not) cut fine =
 not_fine ls d rest e m more (refused l more' r cut' p after is) cut fine =
     let one = first_same l m _ _ p fine.form (sym cut' ∙ cut) in
     let both : None ≡ Some r = sym fine.taken ∙ sym (refuses_same ls ls refl d d (itself d) l m one.0) ∙ is in
-    let z : ◌≡◌ {A = ℕ} 0 1 = cc in omega arith
+    cc
 
 -- two readings that stop at the same bytes stop for the same reason
 same_refusal : (ls ms : List Line) (c d : Draft) (rest rest' : List ℕ) (e r : Refusal) → map said ls ≡ map said ms → Same c d → rest ≡ rest' → Wrong ls c rest e → Wrong ms d rest' r → e ≡ r

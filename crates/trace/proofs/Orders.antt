@@ -1,5 +1,5 @@
 -- The latest part, and which lines may follow.
-use Rattle.std.proofs.Common.{◌≡◌, ℕ, ◌<◌, ◌≤◌, Bool, true, false, not, ◌&&◌, ◌||◌, eqb, ltb, ◌⊎◌, List, [], ◌∷◌, ◌++◌, refl, ⊎_elim, arith}
+use Rattle.std.proofs.Common.{◌≡◌, ℕ, ◌<◌, ◌≤◌, Bool, true, false, not, ◌&&◌, ◌||◌, eqb, ltb, List, [], ◌∷◌, ◌++◌, refl, arith}
 use Rattle.std.specs.List.{AllByRecursion}
 use Rattle.std.proofs.ByRecursion.{All-weaker, All-push}
 use Rattle.std.proofs.lemmas.Bool.Decides.{nat_tests}
@@ -13,18 +13,23 @@ use Rattle.trace.specs.Traces.{After}
 may : ℕ → ℕ → Bool
 may p q = ltb q p || (eqb q p && not (eqb p 1))
 
--- what may follow a place may follow each before it
+-- what may follow a place may follow each before it, and is not before it
 climbs : (p q r : ℕ) → may p q ≡ true → r ≤ q → may p r ≡ true
 unfolding may
 climbs p q r h low = grind (arith, nat_tests)
 
-ahead : (p q : ℕ) → may p q ≡ true → (q < p) ⊎ ((q ≡ p) × (p ≡ 1 → ⊥))
+rises : (p q r : ℕ) → may p q ≡ true → r ≤ q → r ≤ p
 unfolding may
-ahead p q h = grind (arith, nat_tests)
+rises p q r h low = grind (arith, nat_tests)
 
-behind : (p q : ℕ) → may p q ≡ false → (p < q) ⊎ ((p ≡ 1) × (q ≡ 1))
+-- what may not follow a place may follow earlier ones only, so that place is not the first
+falls : (p q r : ℕ) → may p q ≡ false → may p r ≡ true → r < q
 unfolding may
-behind p q h = grind (arith, nat_tests)
+falls p q r h m = grind (arith, nat_tests)
+
+above : (p q : ℕ) → may p q ≡ false → 0 < q
+unfolding may
+above p q h = grind (arith, nat_tests)
 
 all_last : (P : Line → Type 0) (ls : List Line) (l : Line) → AllByRecursion P (ls ++ l ∷ []) → P l
 all_last P [] l h = h.0
@@ -47,7 +52,7 @@ module _ (p : Part) (ls : List Line) (old : Ordered p ls) (l : Line) where
   pub ordered_more : may_follow (part l) p ≡ true → Ordered (part l) (ls ++ l ∷ [])
   unfolding may
   ordered_more h = record {
-    top = All-push (λ m. place (part m) ≤ place (part l)) ls l (All-weaker (λ m. place (part m) ≤ place p) (λ m. place (part m) ≤ place (part l)) (λ m low. ⊎_elim (λ a. omega arith) (λ a. omega (arith, a.0)) (ahead (place (part l)) (place p) h)) ls old.top) (omega arith);
+    top = All-push (λ m. place (part m) ≤ place (part l)) ls l (All-weaker (λ m. place (part m) ≤ place p) (λ m. place (part m) ≤ place (part l)) (λ m low. rises (place (part l)) (place p) (place (part m)) h low) ls old.top) (omega arith);
     reached = λ all. absurd (let last = all_last (λ m. place (part m) < place (part l)) ls l all in omega arith);
   }
 
@@ -55,7 +60,5 @@ module _ (p : Part) (ls : List Line) (old : Ordered p ls) (l : Line) where
   pub late : may_follow (part l) p ≡ false → AllByRecursion (After l) ls → ⊥
   unfolding may
   late h after =
-      let below : (m : Line) → After l m → place (part m) < place p = λ m a.
-      ⊎_elim (λ b. ⊎_elim (λ x. omega arith) (λ x. omega (arith, x.0)) (ahead (place (part l)) (place (part m)) a)) (λ b. ⊎_elim (λ x. omega (arith, b.0, b.1)) (λ x. absurd (x.1 b.0)) (ahead (place (part l)) (place (part m)) a)) (behind (place (part l)) (place p) h) in
-      let zero-place : place p ≡ 0 = old.reached (All-weaker (After l) (λ m. place (part m) < place p) below ls after) in
-      ⊎_elim (λ b. omega arith) (λ b. omega (arith, b.1)) (behind (place (part l)) (place p) h)
+      let first : place p ≡ 0 = old.reached (All-weaker (After l) (λ m. place (part m) < place p) (λ m a. falls (place (part l)) (place p) (place (part m)) h a) ls after) in
+      omega (arith, above (place (part l)) (place p) h)

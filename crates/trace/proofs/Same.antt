@@ -6,7 +6,7 @@ use Rattle.classes.specs.declared.draft.Draft.{Draft}
 use Rattle.classes.specs.Additions.{addition, answer_by, Grown}
 use Rattle.classes.specs.Rows.{name_at, named_below}
 use Rattle.classes.specs.Shapes.{steps, depth}
-use Rattle.classes.specs.Tables.{shape_of, name_of, named}
+use Rattle.classes.specs.Tables.{class_count, shape_of, name_of, named}
 use Rattle.classes.specs.Words.{is_name}
 use Rattle.links.specs.declared.outage.Outage.{Outage as OneOutage}
 use Rattle.rules.specs.Rules.{first}
@@ -20,7 +20,7 @@ use Rattle.trace.specs.Makings.{Bare, Leads, refusal, numbered, parent_of}
 
 -- as far as an addition looks at them
 pub record Same (c d : Draft) : Type 0 where
-  pub count : c.table.len ≡ d.table.len
+  pub count : class_count c.table ≡ class_count d.table
   pub parents : (k : ℕ) → (shape_of c.table).parent k ≡ (shape_of d.table).parent k
   pub names : (k : ℕ) → name_of c.table k ≡ name_of d.table k
 
@@ -37,7 +37,7 @@ named_same cs ds h w (suc n) = λ i. cond (bytes_eq (h n i) w) (Some n) (named_s
 
 module _ (c d : Draft) (same : Same c d) where
   finds_same : (w : List ℕ) → named c.table w ≡ named d.table w
-  finds_same w = named_same c.table.classes d.table.classes same.names w c.table.len ∙ ap (named_below d.table.classes w) same.count
+  finds_same w = named_same c.table.classes.items d.table.classes.items same.names w (class_count c.table) ∙ ap (named_below d.table.classes.items w) same.count
 
   parent_same : (w : List ℕ) → parent_of c.table w ≡ parent_of d.table w
   parent_same w = ap numbered (finds_same w)

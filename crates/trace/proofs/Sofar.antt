@@ -1,5 +1,5 @@
 -- A trace that is right so far, and one line more.
-use Rattle.std.proofs.Common.{◌≡◌, ℕ, ◌+◌, ◌<◌, ◌≤◌, true, false, List, [], ◌∷◌, ◌++◌, length, Some, None, Ok, Err, vec_items, Option, Result, Vec, sym, refl, ap, ◌∙◌, subst, ⊎_elim, append_assoc, append-nil, arith, length-append, MatchOption}
+use Rattle.std.proofs.Common.{◌≡◌, ℕ, ◌+◌, ◌≤◌, true, false, List, [], ◌∷◌, ◌++◌, length, Some, None, Ok, Err, vec_items, Option, Result, Vec, sym, refl, ap, ◌∙◌, subst, ⊎_elim, append_assoc, append-nil, arith, length-append, MatchOption, MatchResult}
 use Rattle.base.specs.declared.refusal.Refusal.{Refusal}
 use Rattle.base.specs.declared.refusal.Refusal.TheVariants.{BadLine, OutOfPlace}
 use Rattle.classes.specs.declared.draft.Draft.{Draft}
@@ -10,7 +10,7 @@ use Rattle.std.specs.declared.alloc.Global.{Global}
 use Rattle.std.specs.Option.{option_to_list}
 use Rattle.std.specs.List.{AllByRecursion}
 use Rattle.std.proofs.lemmas.List.{length_push, flat_map_more}
-use Rattle.std.proofs.lemmas.Result.{MatchResult-at_ok, MatchResult-at_err}
+use Rattle.std.proofs.lemmas.Result.{MatchResult-weaker}
 use Rattle.text.specs.declared.kind.Kind.{Kind}
 use Rattle.text.specs.declared.line.Event.{Event}
 use Rattle.text.specs.declared.line.Line.{Line}
@@ -25,7 +25,7 @@ use Rattle.trace.specs.Faults.{misread, on, fault}
 use Rattle.trace.specs.Makings.{Leads, named_by, rate_of, outage_of, event_of}
 use Rattle.trace.specs.Parts.{part, may_follow}
 use Rattle.trace.specs.Readings.{Begun, Rates, Taken, Stepped, Ends, Finished, follows, refused as refused_by}
-use Rattle.trace.specs.Traces.{After, Fine, Takes, Right, misformed, misplaced, refused, Told, wrong, unrated, Linked, Written, Accepted, Wanting}
+use Rattle.trace.specs.Traces.{After, Fine, Takes, Right, misformed, misplaced, refused, Told, wrong, unrated, Written, Accepted, Wanting}
 use Rattle.trace.proofs.Once.{told_not_written}
 use Rattle.trace.proofs.Orders.{Ordered, ordered_none, ordered_more, next, late}
 
@@ -47,9 +47,9 @@ Rated ls x = MatchOption x (named_by rate_of ls ≡ []) (λ y. (named_by rate_of
 no_rates : (r : ℕ) (ls : List Line) → AllByRecursion (After (Link r)) ls → named_by rate_of ls ≡ []
 no_rates r [] h = refl
 no_rates r (Class n p w ∷ ls) h = no_rates r ls h.1
-no_rates r (Link q ∷ ls) h = absurd (let z : ◌≡◌ {A = ℕ} 0 1 = cc h.0 in omega arith)
-no_rates r (Outage o k ∷ ls) h = absurd (let z : ◌≡◌ {A = ℕ} 0 1 = cc h.0 in omega arith)
-no_rates r (event e ∷ ls) h = absurd (let z : ◌≡◌ {A = ℕ} 0 1 = cc h.0 in omega arith)
+no_rates r (Link q ∷ ls) h = cc h.0
+no_rates r (Outage o k ∷ ls) h = cc h.0
+no_rates r (event e ∷ ls) h = cc h.0
 
 rated_same : (ls : List Line) (l : Line) (x y : Option FixedLink) → rate_of l ≡ None → y ≡ x → Rated ls x → Rated (ls ++ l ∷ []) y
 rated_same ls l x y none same old =
@@ -65,15 +65,6 @@ rated_more ls (Class n p w) x y after old h = rated_same ls (Class n p w) x y re
 rated_more ls (Link r) x y after old h = rated_set r ls y after h
 rated_more ls (Outage o k) x y after old h = rated_same ls (Outage o k) x y refl h old
 rated_more ls (event e) x y after old h = rated_same ls (event e) x y refl h old
-
-err_same : {X E : Type 0} {d e : E} → ◌≡◌ {A = Result X E} (Err d) (Err e) → d ≡ e
-err_same h = cc
-
-ok_same : {X E : Type 0} {x y : X} → ◌≡◌ {A = Result X E} (Ok x) (Ok y) → x ≡ y
-ok_same h = cc
-
-ok_not_err : {X E : Type 0} {x : X} {e : E} → ◌≡◌ {A = Result X E} (Ok x) (Err e) → ⊥
-ok_not_err h = let z : ◌≡◌ {A = ℕ} 0 1 = cc in omega arith
 
 -- what the loop over the lines knows
 pub record Sofar (bs : List ℕ) (k : Kind) (rest : List ℕ) (number : ℕ) (s : Reading) (es : List Event) : Type 0 where
@@ -106,8 +97,8 @@ module _ (bs : List ℕ) (k : Kind) (rest : List ℕ) (number : ℕ) (s : Readin
         ∙ append_assoc (ended old.lines) (written l ++ 10 ∷ []) more
         ∙ ap (λ z. ended old.lines ++ z) (append_assoc (written l) (10 ∷ []) more ∙ sym cut)
 
-    pub one_more : (o : Option Event) (t : Reading) (es' : List Event) → may_follow (part l) s.latest ≡ true → Taken (follows s (part l)) l (Ok o) t → es' ≡ es ++ option_to_list o → Sofar bs k more (number + 1) t es'
-    one_more o t es' may taken pushed =
+    one_more : (o : Option Event) (t : Reading) → may_follow (part l) s.latest ≡ true → Taken (follows s (part l)) l (Ok o) t → Sofar bs k more (number + 1) t (es ++ option_to_list o)
+    one_more o t may taken =
         let moved = taken.2 in
         let after = next s.latest old.lines old.ordered l may in
         record {
@@ -123,15 +114,15 @@ module _ (bs : List ℕ) (k : Kind) (rest : List ℕ) (number : ℕ) (s : Readin
           ordered = subst (λ p. Ordered p (old.lines ++ l ∷ [])) (sym moved.latest) (ordered_more s.latest old.lines old.ordered l may);
           link = rated_more old.lines l s.link t.link after old.link moved.link;
           outages = moved.outages ∙ ap (λ xs. xs ++ option_to_list (outage_of l)) old.outages ∙ sym (named_more outage_of old.lines l);
-          events = pushed ∙ ap (λ xs. xs ++ option_to_list o) old.events ∙ ap (λ x. named_by event_of old.lines ++ option_to_list x) taken.1 ∙ sym (named_more event_of old.lines l);
+          events = ap (λ xs. xs ++ option_to_list o) old.events ∙ ap (λ x. named_by event_of old.lines ++ option_to_list x) taken.1 ∙ sym (named_more event_of old.lines l);
           room = omega (arith, old.room, shorter rest (written l) more cut);
         }
 
     -- a line that is out of its part, or that the tree or the link refuses
-    pub told_place : may_follow (part l) s.latest ≡ false → Told bs (fault (length old.lines + 2) OutOfPlace)
+    told_place : may_follow (part l) s.latest ≡ false → Told bs (fault (length old.lines + 2) OutOfPlace)
     told_place no_way = wrong k old.lines rest s.draft OutOfPlace old.right (misplaced l more cut form (late s.latest old.lines old.ordered l no_way))
 
-    pub told_refusal : (e : Refusal) → may_follow (part l) s.latest ≡ true → refused_by s l ≡ Some e → Told bs (fault (length old.lines + 2) e)
+    told_refusal : (e : Refusal) → may_follow (part l) s.latest ≡ true → refused_by s l ≡ Some e → Told bs (fault (length old.lines + 2) e)
     told_refusal e may is =
         wrong k old.lines rest s.draft e old.right (refused l more e cut form (next s.latest old.lines old.ordered l may) (rw old.outages at is))
 
@@ -141,57 +132,36 @@ module _ (bs : List ℕ) (k : Kind) (rest : List ℕ) (number : ℕ) (s : Readin
       let line : length old.lines + 2 ≡ number + 1 = omega (arith, old.count) in
       subst (λ n. Told bs (on n m)) line (subst (λ x. Told bs (on (length old.lines + 2) x)) (sym is) told)
 
-  -- a step over the next line, and what it answered
-  module _ (more : List ℕ) (t : Reading) (r : Result (Option Event) Misread) where
-    pub step_told : (line : Result Line Refusal) → Gives rest more line → Stepped s line r t → (m : Misread) → r ≡ Err m → Told bs (on (number + 1) m)
-    step_told (Err e) form h m is =
-        at_next BadLine m (err_same (sym is ∙ h) ∙ ap misread form.0) (wrong k old.lines rest s.draft BadLine old.right (misformed form.1))
-    step_told (Ok l) form h m is =
-        ⊎_elim
-        (λ w.
-        let bad = MatchResult-at_err _ _ m is w.1 in
-        at_next m.refusal m bad.1 (told_refusal l more form.1 form.0 m.refusal w.0 bad.0))
-        (λ w. at_next OutOfPlace m (err_same (sym is ∙ w.1)) (told_place l more form.1 form.0 w.0))
-        h
+  -- the next line: either the same is known behind it, or it has the first fault
+  pub stepped : (more : List ℕ) (t : Reading) (r : Result (Option Event) Misread) (line : Result Line Refusal) → Gives rest more line → Stepped s line r t → MatchResult r (λ o. Sofar bs k more (number + 1) t (es ++ option_to_list o)) (λ m. Told bs (on (number + 1) m))
+  stepped more t r (Err e) form h =
+      rw h (at_next BadLine (misread e) (ap misread form.0) (wrong k old.lines rest s.draft BadLine old.right (misformed form.1)))
+  stepped more t r (Ok l) form h =
+      ⊎_elim
+      (λ w. MatchResult-weaker r w.1 (λ o taken. one_more l more form.1 form.0 o t w.0 taken) (λ m bad. at_next m.refusal m bad.1 (told_refusal l more form.1 form.0 m.refusal w.0 bad.0)))
+      (λ w. rw w.1 (at_next OutOfPlace (misread OutOfPlace) refl (told_place l more form.1 form.0 w.0)))
+      h
 
-    pub step_more : (line : Result Line Refusal) → Gives rest more line → Stepped s line r t → (o : Option Event) → r ≡ Ok o → (es' : List Event) → es' ≡ es ++ option_to_list o → Sofar bs k more (number + 1) t es'
-    step_more (Err e) form h o is es' pushed = absurd (ok_not_err (sym is ∙ h))
-    step_more (Ok l) form h o is es' pushed =
-        ⊎_elim
-        (λ w. one_more l more form.1 form.0 o t es' w.0 (MatchResult-at_ok _ _ o is w.1) pushed)
-        (λ w. absurd (ok_not_err (sym is ∙ w.1)))
-        h
+  -- the end of the text: what it writes, or a missing rate
+  pub finished : rest ≡ [] → (r : Result (Draft × Interrupted FixedLink) Misread) → Finished s r → MatchResult r (λ p. (v : Vec Event Global) → vec_items v ≡ es → Accepted bs (record { kind = k; draft = p.0; link = p.1; events = v })) (λ m. Told bs (on number m))
+  finished end r fin = go s.link old.link fin
+    where
+      right_end : Right bs k old.lines [] s.draft
+      right_end = subst (λ z. Right bs k old.lines z s.draft) end old.right
 
-    -- memory was wanting for the line's event
-    pub step_wanting : (line : Result Line Refusal) → Gives rest more line → Stepped s line r t → (o : Option Event) → r ≡ Ok o → 0 < length (option_to_list o) → Wanting bs
-    step_wanting line form h o is some =
-        let new = step_more line form h o is (es ++ option_to_list o) refl in
-        record { kind = k; lines = new.lines; rest = more; draft = t.draft; right = new.right; some = omega (arith, some, length-append es (option_to_list o), ap length new.events) }
+      go : (x : Option FixedLink) → Rated old.lines x → Ends s x r → MatchResult r (λ p. (v : Vec Event Global) → vec_items v ≡ es → Accepted bs (record { kind = k; draft = p.0; link = p.1; events = v })) (λ m. Told bs (on number m))
+      go None none h = rw h (subst (λ n. Told bs (on n (misread OutOfPlace))) old.count (unrated k old.lines s.draft right_end none))
+      go (Some x) rated h =
+          rw h (λ v items.
+          let here : Written bs (record { kind = k; draft = s.draft; link = record { below = x; outages = s.outages; count = 0 }; events = v }) = record {
+            lines = old.lines;
+            right = right_end;
+            linked = record { rate = rated.0; done = rated.1; outages = old.outages; count = refl };
+            events = items ∙ old.events;
+          } in
+          record { written = here; faultless = λ f told. told_not_written bs f _ told here })
 
-  -- the end of the text
-  module _ (end : rest ≡ []) (r : Result (Draft × Interrupted FixedLink) Misread) (fin : Finished s r) where
-    right_end : Right bs k old.lines [] s.draft
-    right_end = subst (λ z. Right bs k old.lines z s.draft) end old.right
-
-    pub finish_told : (m : Misread) → r ≡ Err m → Told bs (on number m)
-    finish_told m is = go s.link old.link fin
-      where
-        go : (x : Option FixedLink) → Rated old.lines x → Ends s x r → Told bs (on number m)
-        go None none h = subst (λ n. Told bs (on n m)) old.count (subst (λ x. Told bs (on (length old.lines + 1) x)) (sym (err_same (sym is ∙ h))) (unrated k old.lines s.draft right_end none))
-        go (Some x) rated h = absurd (ok_not_err (sym h ∙ is))
-
-    pub finish_done : (d : Draft) (x : Interrupted FixedLink) (v : Vec Event Global) → r ≡ Ok (d, x) → vec_items v ≡ es → Accepted bs (record { kind = k; draft = d; link = x; events = v })
-    finish_done d x v is items =
-        let here = go s.link old.link fin in
-        record { written = here; faultless = λ f told. told_not_written bs f _ told here }
-      where
-        go : (y : Option FixedLink) → Rated old.lines y → Ends s y r → Written bs (record { kind = k; draft = d; link = x; events = v })
-        go None none h = absurd (ok_not_err (sym is ∙ h))
-        go (Some y) rated h =
-            let pair = ok_same (sym is ∙ h) in
-            record {
-              lines = old.lines;
-              right = subst (Right bs k old.lines []) (sym (ap (λ p. p.0) pair)) right_end;
-              linked = subst (Linked old.lines) (sym (ap (λ p. p.1) pair)) (record { rate = rated.0; done = rated.1; outages = old.outages; count = refl });
-              events = items ∙ old.events;
-            }
+-- memory was wanting for the last line's event
+pub wanting : (bs : List ℕ) (k : Kind) (rest : List ℕ) (number : ℕ) (s : Reading) (es : List Event) (e : Event) → Sofar bs k rest number s (es ++ e ∷ []) → Wanting bs
+wanting bs k rest number s es e new =
+    record { kind = k; lines = new.lines; rest = rest; draft = s.draft; right = new.right; some = omega (arith, length-append es (e ∷ []), ap length new.events) }

@@ -65,7 +65,7 @@ misread e = record { layer = layer_of e; word = word_of e; refusal = e }
 
 -- the same on a line
 abbrev pub on : ℕ → Misread → Fault
-on n m = record { layer = m.layer; line = n; word = m.word; refusal = m.refusal }
+on n m = record { line = n; misread = m }
 
 -- the fault of a refusal on a line
 abbrev pub fault : ℕ → Refusal → Fault
@@ -83,4 +83,5 @@ named Link = codes "link"
 
 -- `! LAYER LINE WORD NUMBER`
 abbrev pub told : Fault → List ℕ
-told f = codes "! " ++ (named f.layer ++ (codes " " ++ (decimal f.line ++ (codes " " ++ (decimal f.word ++ (codes " " ++ decimal (number f.refusal)))))))
+told f =
+    codes "! " ++ (named f.misread.layer ++ (codes " " ++ (decimal f.line ++ (codes " " ++ (decimal f.misread.word ++ (codes " " ++ decimal (number f.misread.refusal)))))))

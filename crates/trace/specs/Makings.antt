@@ -4,9 +4,9 @@ use Rattle.base.specs.declared.refusal.Refusal.{Refusal}
 use Rattle.base.specs.declared.refusal.Refusal.TheVariants.{BadRate, BadOutage}
 use Rattle.classes.specs.declared.draft.Draft.{Draft}
 use Rattle.classes.specs.declared.table.ClassTable.{ClassTable}
-use Rattle.classes.specs.Additions.{addition, Grown}
+use Rattle.classes.specs.Additions.{addition, parent_number, Grown}
 use Rattle.classes.specs.Rows.{row, Alone}
-use Rattle.classes.specs.Tables.{named}
+use Rattle.classes.specs.Tables.{class_count, named}
 use Rattle.links.specs.declared.outage.Outage.{Outage as OneOutage}
 use Rattle.links.specs.Outages.{fits, outage}
 use Rattle.std.specs.Result.{result_err}
@@ -39,10 +39,9 @@ event_of (event e) = Some e
 abbrev pub named_by : {X : Type 0} → (Line → Option X) → List Line → List X
 named_by f ls = flat_map (λ l. option_to_list (f l)) ls
 
--- the number of a parent by its name; 64, which no class has, for a name that no class has
+-- the number of a class that was looked for by its name; 64, which no class has, for a name that no class has
 abbrev pub numbered : Option ℕ → ℕ
-numbered None = 64
-numbered (Some k) = k
+numbered p = parent_number p
 
 abbrev pub parent_of : ClassTable → List ℕ → ℕ
 parent_of t w = numbered (named t w)
@@ -57,8 +56,8 @@ refusal t os (event e) = None
 -- a draft of house 0 with the root alone
 pub record Bare (d : Draft) : Type 0 where
   pub house : d.house ≡ 0
-  pub count : d.table.len ≡ 1
-  pub rows : (k : ℕ) → Alone (row d.table.classes k)
+  pub count : class_count d.table ≡ 1
+  pub rows : (k : ℕ) → Alone (row d.table.classes.items k)
 
 -- the draft c becomes d by a class of name n, parent p and weight w
 abbrev pub Grows : Draft → List ℕ → List ℕ → ℕ → Draft → Type 0

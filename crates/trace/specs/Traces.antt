@@ -96,4 +96,4 @@ pub record Wanting (bs : List ℕ) : Type 0 where
 abbrev pub Judged : List ℕ → Result Trace ReadError → Type 0
 Judged bs (Ok t) = Accepted bs t
 Judged bs (Err (faulty f)) = Faulted bs f
-Judged bs (Err NoMemory) = Wanting bs
+Judged bs (Err (NoMemory e)) = Wanting bs

@@ -14,14 +14,16 @@ pub(crate) enum Part {
 }
 
 /// The part that a line belongs to.
-pub(crate) fn part_of(line: &Line<'_>) -> Part
-    ensures { result ≡ part line.now }
-{
-    match line {
-        Line::Class { .. } => Part::Classes,
-        Line::Link { .. } => Part::Link,
-        Line::Outage { .. } => Part::Outages,
-        Line::Event(_) => Part::Events,
+impl From<&Line<'_>> for Part {
+    ghost from_gives = { λ l p. p ≡ part l.now };
+
+    fn from(line: &Line<'_>) -> Part {
+        match line {
+            Line::Class { .. } => Part::Classes,
+            Line::Link { .. } => Part::Link,
+            Line::Outage { .. } => Part::Outages,
+            Line::Event(_) => Part::Events,
+        }
     }
 }
 

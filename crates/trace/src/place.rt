@@ -7,15 +7,18 @@ use base::refusal::Refusal;
 use std::fmt;
 
 /// The layer that a refusal comes from.
-fn layer(refusal: Refusal) -> Layer
-    ensures { result ≡ layer_of refusal }
-{
-    match refusal {
-        Refusal::TraceTooLong | Refusal::BadFirstLine | Refusal::BadLine | Refusal::OutOfPlace => {
-            Layer::Text
+impl From<Refusal> for Layer {
+    ghost from_gives = { λ e l. l ≡ layer_of e };
+
+    fn from(refusal: Refusal) -> Layer {
+        match refusal {
+            Refusal::TraceTooLong
+            | Refusal::BadFirstLine
+            | Refusal::BadLine
+            | Refusal::OutOfPlace => Layer::Text,
+            Refusal::BadOutage | Refusal::BadRate => Layer::Link,
+            _ => Layer::Tree,
         }
-        Refusal::BadOutage | Refusal::BadRate => Layer::Link,
-        _ => Layer::Tree,
     }
 }
 
@@ -36,7 +39,7 @@ impl From<Refusal> for Misread {
 
     fn from(refusal: Refusal) -> Misread {
         Misread {
-            layer: layer(refusal),
+            layer: Layer::from(refusal),
             word: word(refusal),
             refusal,
         }
@@ -59,15 +62,7 @@ impl<T> OnLine for Result<T, Misread> {
     ghost lined = { λ r line. placed line r };
 
     fn on_line(self, line: u32) -> Result<T, Fault> {
-        match self {
-            Ok(value) => Ok(value),
-            Err(misread) => Err(Fault {
-                layer: misread.layer,
-                line,
-                word: misread.word,
-                refusal: misread.refusal,
-            }),
-        }
+        self.map_err(|misread| Fault { line, misread })
     }
 }
 
@@ -87,13 +82,13 @@ impl fmt::Display for Fault {
     ghost output = { λ x. Some (told x) };
 
     fn fmt<W: fmt::Write>(&self, f: &mut fmt::Formatter<W>) -> fmt::Result {
-        let Fault {
+        let Fault { line, misread } = self;
+        let Misread {
             layer,
-            line,
             word,
-            ..
-        } = self;
-        let number = self.refusal.number();
+            refusal,
+        } = misread;
+        let number = refusal.number();
         write!(f, "! {layer} {line} {word} {number}")
     }
 }

@@ -1,9 +1,7 @@
 //! Reading a whole trace.
-ghost use Rattle.std.specs.Prelude.{◌≡◌, ◌<◌, ◌≤◌, ◌++◌, length, MatchResult};
+ghost use Rattle.std.specs.Prelude.{◌≡◌, ◌<◌, ◌≤◌, length, MatchResult};
 ghost use Rattle.base.specs.declared.refusal.Refusal.TheVariants.{TraceTooLong, BadFirstLine};
 ghost use Rattle.text.specs.Kinds.{Titled, Untitled};
-ghost use Rattle.std.specs.Option.{option_to_list};
-ghost use Rattle.trace.specs.declared.error.ReadError.TheVariants.{NoMemory};
 ghost use Rattle.trace.specs.Faults.{misread};
 ghost use Rattle.trace.specs.Traces.{Judged};
 
@@ -16,7 +14,6 @@ use base::refusal::Refusal;
 use std::alloc::Global;
 use text::header::header;
 use text::kind::Kind;
-use text::line::Event;
 use text::lines::Lines;
 
 /// The most bytes that a trace may have.
@@ -39,16 +36,6 @@ fn title(text: &[u8]) -> Result<(Kind, Lines<'_>), Misread>
     Ok(header(text)?)
 }
 
-/// Puts an event, if there is one, behind the others.
-fn keep<'a>(events: &mut Vec<Event<'a>>, event: Option<Event<'a>>) -> Result<(), ReadError>
-    ensures { MatchResult result (λ _. events.new.items ≡ events.old.items ++ option_to_list event.entry) (λ e. (e ≡ NoMemory) × (0 < length (option_to_list event.entry))) }
-{
-    if let Some(event) = event {
-        events.push(event)?;
-    }
-    Ok(())
-}
-
 /// The trace that the text writes; or its first fault, or want of memory.
 pub fn read(heap: Global, text: &[u8]) -> Result<Trace<'_>, ReadError>
     ensures { Judged text.now result }
@@ -57,11 +44,14 @@ pub fn read(heap: Global, text: &[u8]) -> Result<Trace<'_>, ReadError>
     let (kind, lines) = title(text).on_line(1)?;
     let mut reading = Reading::new();
     let mut events = Vec::new(heap);
+    // the line's number is counted by hand, since the fault of a missing rate needs the last one
     let mut number = 1;
     for line in lines {
         number += 1;
-        let event = reading.step(line).on_line(number)?;
-        keep(&mut events, event)?;
+        let Some(event) = reading.step(line).on_line(number)? else {
+            continue;
+        };
+        events.push(event)?;
     }
     let (draft, link) = reading.finish().on_line(number)?;
     Ok(Trace {

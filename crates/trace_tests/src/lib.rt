@@ -29,7 +29,7 @@ mod tests {
                 Ok(format!(in heap; "{classes} {events}")?)
             }
             Err(ReadError::Fault(fault)) => Ok(format!(in heap; "{fault}")?),
-            Err(ReadError::NoMemory) => Err(Fail::new("no memory")),
+            Err(ReadError::NoMemory(error)) => Err(Fail::from(error)),
         }
     }
 

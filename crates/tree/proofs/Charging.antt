@@ -1,13 +1,11 @@
 -- A class is settled by its charge, and by a rest where it is no longer backlogged.
-use Rattle.std.proofs.Common.{◌≡◌, ℕ, ◌+◌, ◌-◌, ◌<◌, ◌≤◌, max, Bool, true, false, cond, not, ◌&&◌, eqb, ltb, List, length, set, Some, None, sym, refl, ap, ◌∙◌, subst, inl, inr, arith}
+use Rattle.std.proofs.Common.{◌≡◌, ℕ, ◌+◌, ◌-◌, ◌<◌, max, Bool, true, false, cond, not, ◌&&◌, eqb, ltb, List, length, set, sym, refl, ap, ◌∙◌, subst, inl, inr}
 use mathlib.Core.Bool.{and-true, and-false}
 use Rattle.std.proofs.lemmas.Bool.{and_left, cases_eq, eq-eqb, ne_eqb, lt-ltb, not_from_true}
 use Rattle.base.specs.Charge.{charged}
 use Rattle.base.specs.declared.units.Parts.{Parts}
-use Rattle.tags.specs.Held.{Held, with, may_put}
-use Rattle.tags.proofs.Uses.{put_done, with_same, with_other}
 use Rattle.rules.specs.Shape.{Shape}
-use Rattle.tree.specs.Loads.{load, stocked}
+use Rattle.tree.specs.Loads.{load}
 use Rattle.tree.specs.Walks.{rests, charged_load, settled, rested}
 use Rattle.tree.specs.declared.load.Load.{Load}
 use Rattle.tree.proofs.Writes.{written}
@@ -33,51 +31,24 @@ module _ (t : Shape) (w : ℕ → ℕ) (d : ℕ) (gone : Bool) (ls : List Load) 
       ap (λ o. charge (ltb 0 k) o gone (load ls k) (charged d (w k)) (load ls (t.parent k)).vtime.0) (ne_eqb c k n)
       ∙ charge_off (ltb 0 k) gone (load ls k) (charged d (w k)) (load ls (t.parent k)).vtime.0
 
-  -- a class but the root that is still backlogged
-  module _ (node b : ℕ) (s f : Parts) (h h' h'' : Held) (r : Bool) (known : c < length ls) (few : c < 64) (low : node < 64) (up : (0 < c) × (t.parent c ≡ node))
-      (left : b ≡ cond gone ((load ls c).backlog - 1) (load ls c).backlog) (some : b ≡ 0 → ⊥) (finish : f.0 ≡ (load ls c).start.0 + charged d (w c)) (start : s.0 ≡ max (load ls node).vtime.0 f.0)
-      (took : h' ≡ with h c None) (answer : r ≡ may_put h' node c) (after : h'' ≡ cond r (with h' c (Some (node, s))) h') where
-    abbrev x : Load
-    x = record { backlog = b; start = s; finish = f; vtime = (load ls c).vtime }
-
-    on : eqb c c ≡ true
-    on = eq-eqb c c refl
-
-    made : x ≡ charged_load t w ls (eqb c) d gone c
-    made =
-        let pos : ltb 0 c ≡ true = lt-ltb 0 c up.0 in
-        let busy : ltb 0 b ≡ true = lt-ltb 0 b (omega arith) in
-        let start' : s.0 ≡ restart true true gone (load ls c) (charged d (w c)) (load ls (t.parent c)).vtime.0 =
-        start ∙ ap (λ n. max (load ls n).vtime.0 f.0) (sym up.1) ∙ ap (λ y. max (load ls (t.parent c)).vtime.0 y) finish
-        ∙ sym (ap (λ y. cond y (max (load ls (t.parent c)).vtime.0 ((load ls c).start.0 + charged d (w c))) (load ls c).start.0) (ap (ltb 0) (sym left) ∙ busy)) in
-        (λ i. record { backlog = left i; start = record { 0 = start' i }; finish = record { 0 = finish i }; vtime = (load ls c).vtime })
-        ∙ (λ i. charge (sym pos i) (sym on i) gone (load ls c) (charged d (w c)) (load ls (t.parent c)).vtime.0)
-
-    pub charging_loads : (k : ℕ) → load (set ls c x) k ≡ charged_load t w ls (eqb c) d gone k
-    charging_loads k = written ls c x known k ∙ elim (cases_eq c k) [
+  module _ (known : c < length ls) (b : ℕ) (left : b ≡ cond gone ((load ls c).backlog - 1) (load ls c).backlog) where
+    charging : (x : Load) → x ≡ charged_load t w ls (eqb c) d gone c → (k : ℕ) → load (set ls c x) k ≡ charged_load t w ls (eqb c) d gone k
+    charging x made k = written ls c x known k ∙ elim (cases_eq c k) [
       | inl e ↦ ap (λ y. cond y x (load ls k)) (eq-eqb c k e) ∙ made ∙ ap (charged_load t w ls (eqb c) d gone) e
       | inr n ↦ ap (λ y. cond y x (load ls k)) (ne_eqb c k n) ∙ sym (charged_off k n)
     ]
 
-    put : h'' ≡ with h' c (Some (node, s))
-    put = put_done h' h'' node c s r answer after low few (ap (λ f. f c) took ∙ with_same h c None)
-
-    here : h'' c ≡ cond (ltb 0 c && eqb c c) (stocked t (set ls c x) c) (h c)
-    here =
-        let new : load (set ls c x) c ≡ x = written ls c x known c ∙ ap (λ y. cond y x (load ls c)) on in
+    -- a class but the root that is still backlogged
+    pub charging_loads : (node : ℕ) (s f : Parts) → (0 < c) × (t.parent c ≡ node) → 0 < b → f.0 ≡ (load ls c).start.0 + charged d (w c) → s.0 ≡ max (load ls node).vtime.0 f.0 →
+        (k : ℕ) → load (set ls c (record { backlog = b; start = s; finish = f; vtime = (load ls c).vtime })) k ≡ charged_load t w ls (eqb c) d gone k
+    charging_loads node s f up some finish start =
         let pos : ltb 0 c ≡ true = lt-ltb 0 c up.0 in
-        let stock : stocked t (set ls c x) c ≡ Some (node, s) =
-        (λ i. cond (pos i && ltb 0 (new i).backlog) (Some (up.1 i, (new i).start)) None) ∙ ap (λ y. cond y (Some (node, s)) None) (lt-ltb 0 b (omega arith)) in
-        ap (λ f. f c) put ∙ with_same h' c (Some (node, s)) ∙ sym stock ∙ (λ i. cond (sym pos i && sym on i) (stocked t (set ls c x) c) (h c))
-
-    pub charging_held : (k : ℕ) → h'' k ≡ cond (ltb 0 k && eqb c k) (stocked t (set ls c x) k) (h k)
-    charging_held k = elim (cases_eq c k) [
-      | inl e ↦ subst (λ k. h'' k ≡ cond (ltb 0 k && eqb c k) (stocked t (set ls c x) k) (h k)) e here
-      | inr n ↦
-          let other : k ≡ c → ⊥ = λ e. n (sym e) in
-          ap (λ f. f k) put ∙ with_other h' c (Some (node, s)) k other ∙ ap (λ f. f k) took ∙ with_other h c None k other
-          ∙ sym (ap (λ o. cond (ltb 0 k && o) (stocked t (set ls c x) k) (h k)) (ne_eqb c k n) ∙ ap (λ y. cond y (stocked t (set ls c x) k) (h k)) (and-false (ltb 0 k)))
-    ]
+        let start' : s.0 ≡ restart true true gone (load ls c) (charged d (w c)) (load ls (t.parent c)).vtime.0 =
+        start ∙ ap (λ n. max (load ls n).vtime.0 f.0) (sym up.1) ∙ ap (λ y. max (load ls (t.parent c)).vtime.0 y) finish
+        ∙ sym (ap (λ y. cond y (max (load ls (t.parent c)).vtime.0 ((load ls c).start.0 + charged d (w c))) (load ls c).start.0) (ap (ltb 0) (sym left) ∙ lt-ltb 0 b some)) in
+        charging _ (
+        (λ i. record { backlog = left i; start = record { 0 = start' i }; finish = record { 0 = finish i }; vtime = (load ls c).vtime })
+        ∙ (λ i. charge (sym pos i) (sym (eq-eqb c c refl) i) gone (load ls c) (charged d (w c)) (load ls (t.parent c)).vtime.0))
 
   -- the class is charged: it is settled if it is backlogged, and else once it rests
   module _ (ms : List Load) (was : (k : ℕ) → load ms k ≡ charged_load t w ls (eqb c) d gone k) where
@@ -93,10 +64,6 @@ module _ (t : Shape) (w : ℕ → ℕ) (d : ℕ) (gone : Bool) (ls : List Load) 
     settled_is : (idle : Bool) → not (ltb 0 (load ms c).backlog) ≡ idle → (k : ℕ) → settled t w ls (eqb c) d gone k ≡ cleared (ltb 0 k && (eqb c (t.parent k) && idle)) (eqb c k && idle) (load ms k)
     settled_is idle e k = λ i. cleared (ltb 0 k && rests_is idle e (t.parent k) i) (rests_is idle e k i) (sym (was k) i)
 
-    -- rows past the tree stay blank
-    pub charged_blank : c < t.count → ((k : ℕ) → t.count ≤ k → (load ls k).finish.0 ≡ 0) → (k : ℕ) → t.count ≤ k → (load ms k).finish.0 ≡ 0
-    charged_blank known blank k past = ap (λ l. l.finish.0) (was k ∙ charged_off k (λ e. omega arith)) ∙ blank k past
-
     pub settled_busy : 0 < (load ms c).backlog → (k : ℕ) → load ms k ≡ settled t w ls (eqb c) d gone k
     settled_busy some k = sym (
         settled_is false (not_from_true (ltb 0 (load ms c).backlog) (lt-ltb 0 (load ms c).backlog some)) k
@@ -110,8 +77,3 @@ module _ (t : Shape) (w : ℕ → ℕ) (d : ℕ) (gone : Bool) (ls : List Load) 
           rest k
           ∙ (λ i. cleared (ltb 0 k && same i) (sym (and-true (eqb c k)) i) (load ms k))
           ∙ sym (settled_is true (ap (λ n. not (ltb 0 n)) none) k)
-
-      -- and the store is as the charge left it
-      pub settled_held : (h h' h'' : Held) → ((k : ℕ) → h' k ≡ cond (ltb 0 k && eqb c k) (stocked t ms k) (h k)) → h'' ≡ h' → (k : ℕ) → h'' k ≡ cond (ltb 0 k && eqb c k) (stocked t ns k) (h k)
-      settled_held h h' h'' had same k =
-          ap (λ f. f k) same ∙ had k ∙ (λ i. cond (ltb 0 k && eqb c k) (cond (ltb 0 k && ltb 0 (sym (rest k) i).backlog) (Some (t.parent k, (sym (rest k) i).start)) None) (h k))

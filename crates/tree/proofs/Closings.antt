@@ -1,10 +1,10 @@
 -- A turn is closed: what the walk makes of the loads is what the rules say of a closing. Assumes nothing.
-use Rattle.std.proofs.Common.{◌≡◌, ℕ, ◌+◌, ◌-◌, ◌*◌, ◌<◌, ◌≤◌, max, Bool, true, false, cond, not, ◌&&◌, eqb, ltb, ◌⊎◌, List, length, Some, None, Option, sym, refl, ap, ◌∙◌, subst, inl, inr, ⊎_elim, div-le_self, arith}
+use Rattle.std.proofs.Common.{◌≡◌, ℕ, ◌+◌, ◌-◌, ◌*◌, ◌<◌, ◌≤◌, max, Bool, true, false, cond, not, ◌&&◌, eqb, ltb, ◌⊎◌, List, length, None, sym, refl, ap, ◌∙◌, subst, inl, inr, ⊎_elim, div-le_self, arith}
+use mathlib.Core.Bool.{and_assoc}
 use mathlib.Core.Path.{fun_ext}
 use Rattle.std.proofs.lemmas.Bool.{cases_eq, cond_both, cond-true, cond-false, eq-eqb, ne_eqb, not_from_true, not_from_false, or_left, or_right, or_from}
 use Rattle.base.specs.Charge.{charged}
 use Rattle.base.specs.declared.refusal.Refusal.TheVariants.{LaneMismatch, NoStoppingPoint}
-use Rattle.base.specs.declared.units.Parts.{Parts}
 use Rattle.classes.specs.Tables.{shape_of, weight_of}
 use Rattle.classes.proofs.Tables.{shape_sound}
 use Rattle.rules.specs.Kind.{Kind}
@@ -14,33 +14,21 @@ use Rattle.rules.specs.Rules.{Grant, end_turn, give_up, refused, closed, head_co
 use Rattle.rules.specs.Rules as rules
 use Rattle.rules.specs.Laws.{Within}
 use Rattle.rules.proofs.Calls.{accept, refuse}
-use Rattle.rules.proofs.Tests.{no_test}
-use Rattle.rules.proofs.Tree.{under_le}
 use Rattle.shelf.specs.Lanes.{lanes, room}
 use Rattle.shelf.specs.declared.shelf.Shelf.{Shelf}
-use Rattle.tags.specs.Held.{Held}
+use Rattle.tags.specs.declared.TagStore.{Ghosts as TagStore}
 use Rattle.tree.specs.Closings.{Closes}
 use Rattle.tree.specs.Counts.{queued, Counted}
-use Rattle.tree.specs.Loads.{load, stocked, Stocked}
+use Rattle.tree.specs.Loads.{load}
 use Rattle.tree.specs.Turns.{turn, serving}
 use Rattle.tree.specs.Walks.{fewer, rests, reached, settled}
 use Rattle.tree.specs.States.{tags, state}
-use Rattle.tree.specs.Trees.{state_of, InStep}
+use Rattle.tree.specs.Trees.{state_of}
 use Rattle.tree.specs.declared.load.Load.{Load}
 use Rattle.tree.specs.declared.phase.Phase.TheVariants.{Free, Open}
 use Rattle.tree.specs.declared.tree.Tree.{Tree}
 use Rattle.tree.proofs.Counts.{leaves, queue_known, busy_backlog, queued_low, queued_put, counted_put, few_put}
 use Rattle.tree.proofs.Grants.{own, at, names}
-
--- a pair of the store, where z says that the class is not the root and o that it is on the path, b is its backlog, p its parent, s its
--- start tag and m the tag it starts with again
-settle_pair : (z o gone : Bool) (b p : ℕ) (s : Parts) (m : ℕ) (x : Option (ℕ × Parts)) → x ≡ cond (z && ltb 0 b) (Some (p, s)) None →
-    let left : ℕ = cond (o && gone) (b - 1) b in
-    let pair : Option (ℕ × Parts) = cond (z && ltb 0 left) (Some (p, record { 0 = cond (z && o && ltb 0 left) m s.0 })) None in
-    cond (z && o) pair x ≡ pair
-settle_pair false o gone b p s m x e = e
-settle_pair true true gone b p s m x e = refl
-settle_pair true false gone b p s m x e = e
 
 -- one less on the path
 one_less : (u gone : Bool) (b q : ℕ) → (u ≡ true → gone ≡ true → (0 < q) × (q ≤ b)) → cond (u && gone) (b - 1) b + cond u q 0 ≡ b + cond u (cond gone (q - 1) q) 0
@@ -48,30 +36,9 @@ one_less true true b q some = let (p, l) = some refl refl in omega arith
 one_less true false b q some = refl
 one_less false gone b q some = refl
 
--- 0 either way
-cond_zero : (b : Bool) → cond {A = ℕ} b 0 0 ≡ 0
-cond_zero true = refl
-cond_zero false = refl
-
-and_group : (a b c : Bool) → (a && (b && c)) ≡ (a && b && c)
-and_group true b c = refl
-and_group false b c = refl
-
-and_off : (a : Bool) → (a && false) ≡ false
-and_off true = refl
-and_off false = refl
-
 module _ (t : Shape) (w : ℕ → ℕ) (ls ms : List Load) (c d : ℕ) (gone : Bool) (loads : (k : ℕ) → load ms k ≡ settled t w ls (λ j. under t j c) d gone k) where
   abbrev on : ℕ → Bool
   on j = under t j c
-
-  -- the store is in step again
-  pub settled_stocked : (h h' : Held) → Stocked t h ls → ((k : ℕ) → h' k ≡ cond (ltb 0 k && on k) (stocked t ms k) (h k)) → Stocked t h' ms
-  settled_stocked h h' was wrote k =
-      wrote k
-      ∙ ap (λ l. cond (ltb 0 k && on k) (cond (ltb 0 k && ltb 0 l.backlog) (Some (t.parent k, l.start)) None) (h k)) (loads k)
-      ∙ settle_pair (ltb 0 k) (on k) gone (load ls k).backlog (t.parent k) (load ls k).start (max (load ls (t.parent k)).vtime.0 (reached t w ls on d gone k)) (h k) (was k)
-      ∙ ap (λ l. cond (ltb 0 k && ltb 0 l.backlog) (Some (t.parent k, l.start)) None) (sym (loads k))
 
   reached_low : (m k : ℕ) → Within (tags ls) (720720 * m) → reached t w ls on d gone k ≤ 720720 * (m + d)
   reached_low m k was = cond_both (ltb 0 k && on k) ((load ls k).start.0 + charged d (w k)) (load ls k).finish.0 (λ x. x ≤ 720720 * (m + d))
@@ -89,16 +56,6 @@ module _ (t : Shape) (w : ℕ → ℕ) (ls ms : List Load) (c d : ℕ) (gone : B
         cond_both (ltb 0 k && rests t w ls on d gone (t.parent k)) 0 (reached t w ls on d gone k) wide (λ _. omega arith) (λ _. low),
         cond_both (rests t w ls on d gone k) 0 (load ls k).vtime.0 wide (λ _. omega arith) (λ _. omega (arith, (was k).2)),
       )
-
-  -- numbers that no class has keep a finish tag of 0
-  pub settled_unused : Sound t → c < t.count → (k : ℕ) → t.count ≤ k → (load ls k).finish.0 ≡ 0 → (load ms k).finish.0 ≡ 0
-  settled_unused ok lt k past was =
-      let off : on k ≡ false = no_test _ (λ u. omega (arith, under_le ok k c u)) in
-      ap (λ l. l.finish.0) (loads k)
-      ∙ ap (λ o. cond (ltb 0 k && rests t w ls on d gone (t.parent k)) 0 (cond (ltb 0 k && o) ((load ls k).start.0 + charged d (w k)) (load ls k).finish.0)) off
-      ∙ ap (λ b. cond (ltb 0 k && rests t w ls on d gone (t.parent k)) 0 (cond b ((load ls k).start.0 + charged d (w k)) (load ls k).finish.0)) (and_off (ltb 0 k))
-      ∙ ap (cond (ltb 0 k && rests t w ls on d gone (t.parent k)) 0) was
-      ∙ cond_zero (ltb 0 k && rests t w ls on d gone (t.parent k))
 
   -- the root's start tag does not move
   pub settled_root : (load ms 0).start ≡ (load ls 0).start
@@ -144,7 +101,7 @@ module _ (t : Shape) (w : ℕ → ℕ) (ls ms : List Load) (c d : ℕ) (gone : B
           start = fun_ext {f = λ k. (load ms k).start.0} {g = λ k. cond (ltb 0 k && on k && backlogged_by t q k) (max (load ls (t.parent k)).vtime.0 (reached t w ls on d gone k)) (load ls k).start.0}
               (λ k. ap (λ l. l.start.0) (loads k) ∙ ap (λ b. cond (ltb 0 k && on k && b) (max (load ls (t.parent k)).vtime.0 (reached t w ls on d gone k)) (load ls k).start.0) (still k)) i;
           finish = fun_ext {f = λ k. (load ms k).finish.0} {g = λ k. cond (ltb 0 k && on (t.parent k) && not (backlogged_by t q (t.parent k))) 0 (reached t w ls on d gone k)}
-              (λ k. ap (λ l. l.finish.0) (loads k) ∙ ap (λ b. cond b 0 (reached t w ls on d gone k)) (and_group (ltb 0 k) (on (t.parent k)) (not (ltb 0 (fewer t w ls on d gone (t.parent k))))) ∙ ap (λ b. cond (ltb 0 k && on (t.parent k) && not b) 0 (reached t w ls on d gone k)) (still (t.parent k))) i;
+              (λ k. ap (λ l. l.finish.0) (loads k) ∙ ap (λ b. cond b 0 (reached t w ls on d gone k)) (sym (and_assoc (ltb 0 k) (on (t.parent k)) (not (ltb 0 (fewer t w ls on d gone (t.parent k)))))) ∙ ap (λ b. cond (ltb 0 k && on (t.parent k) && not b) 0 (reached t w ls on d gone k)) (still (t.parent k))) i;
           virtual = fun_ext {f = λ k. (load ms k).vtime.0} {g = λ k. cond (on k && not (backlogged_by t q k)) 0 (load ls k).vtime.0}
               (λ k. ap (λ l. l.vtime.0) (loads k) ∙ ap (λ b. cond (on k && not b) 0 (load ls k).vtime.0) (still k)) i;
         };
@@ -155,23 +112,18 @@ module _ (t : Shape) (w : ℕ → ℕ) (ls ms : List Load) (c d : ℕ) (gone : B
       }
 
 -- u is t after the closing
-module _ {T I : Type 0} (held : T → Held) (t u : Tree T I) (leaf done : ℕ) (gone : Bool) (c : Closes held t leaf done gone u) where
+module _ {T I : Type 0} {H : TagStore T} (t u : Tree T I H) (leaf done : ℕ) (gone : Bool) (c : Closes t leaf done gone u) where
   abbrev shape : Shape
-  shape = shape_of t.table
-
-  -- the store is in step again
-  pub closes_in_step : InStep held t → InStep held u
-  closes_in_step ins = subst (λ x. Stocked (shape_of x) (held u.queue.store) u.queue.loads) (sym c.table)
-      (settled_stocked shape (weight_of t.table) t.queue.loads u.queue.loads leaf done gone c.loads (held t.queue.store) (held u.queue.store) ins c.store)
+  shape = shape_of t.queue.table
 
   -- the state is the one that the rules leave
-  pub closes_to : 0 < queued shape t.queue.loads leaf → (sh sh' : Shelf I) (cost w : ℕ) (q : ℕ → ℕ) → ((k : ℕ) → put (queued shape t.queue.loads) leaf (cond gone (queued shape t.queue.loads leaf - 1) (queued shape t.queue.loads leaf)) k ≡ q k) →
+  pub closes_to : {K : Kind I} → 0 < queued shape t.queue.loads leaf → (sh sh' : Shelf I K) (cost w : ℕ) (q : ℕ → ℕ) → ((k : ℕ) → put (queued shape t.queue.loads) leaf (cond gone (queued shape t.queue.loads leaf - 1) (queued shape t.queue.loads leaf)) k ≡ q k) →
       room sh' ≡ room sh → (lane' : ℕ → List I) → lanes sh' ≡ lane' →
-      state_of u sh' w ≡ settle (state t.house shape (weight_of t.table) t.queue.loads (Open leaf cost done) t.meter.0 t.turns (room sh) (lanes sh) w) lane' q
+      state_of u sh' w ≡ settle (state t.house shape (weight_of t.queue.table) t.queue.loads (Open leaf cost done) t.meter.0 t.turns (room sh) (lanes sh) w) lane' q
   closes_to some sh sh' cost w q queues rooms lane' lane =
       (λ i. state (c.house i) (shape_of (c.table i)) (weight_of (c.table i)) u.queue.loads (c.free i) (c.charged i) (c.turns i) (rooms i) (lane i) w)
-      ∙ closing_leaves shape (weight_of t.table) t.queue.loads u.queue.loads leaf done gone c.loads (shape_sound t.table) t.counted
-      (queue_known shape t.queue.loads t.counted (shape_sound t.table) leaf some) (leaves shape t.queue.loads leaf some) (λ _. some) q queues
+      ∙ closing_leaves shape (weight_of t.queue.table) t.queue.loads u.queue.loads leaf done gone c.loads (shape_sound t.queue.table) t.counted
+      (queue_known shape t.queue.loads t.counted (shape_sound t.queue.table) leaf some) (leaves shape t.queue.loads leaf some) (λ _. some) q queues
       t.house cost t.meter.0 t.turns (room sh) (lanes sh) lane' w
 
 put_same : (q : ℕ → ℕ) (c k : ℕ) → put q c (q c) k ≡ q k
@@ -181,33 +133,30 @@ put_same q c k = elim (cases_eq k c) [
 ]
 
 -- the calls that close the turn of the leaf
-module _ {T I : Type 0} (K : Kind I) (t : Tree T I) (g : Grant) (leaf cost done : ℕ) (opened : t.phase ≡ Open leaf cost done) (is-own : true ≡ own K t g) (sh : Shelf I) where
+module _ {T I : Type 0} {H : TagStore T} (K : Kind I) (t : Tree T I H) (g : Grant) (leaf cost done : ℕ) (opened : t.phase ≡ Open leaf cost done) (is-own : true ≡ own K t g) (sh : Shelf I K) where
   abbrev counts : ℕ
-  counts = queued (shape_of t.table) t.queue.loads leaf
+  counts = queued (shape_of t.queue.table) t.queue.loads leaf
 
   abbrev now : ℕ → State I
   now w = at K t g sh w (Open leaf cost done)
 
   -- the lane has an item
   pub some : 0 < counts
-  some = subst (λ p. is_open (turn p) ≡ true → 0 < queued (shape_of t.table) t.queue.loads (serving p).leaf) opened t.served refl
+  some = subst (λ p. is_open (turn p) ≡ true → 0 < queued (shape_of t.queue.table) t.queue.loads (serving p).leaf) opened t.served refl
 
   right : (w : ℕ) → rules.wrong_grant (now w) g ≡ false
   right w = let n = names K t g leaf cost done opened is-own sh w in or_from _ _ (not_from_true _ (eq-eqb _ _ n.house)) (not_from_true _ (eq-eqb _ _ n.turn))
 
-  -- the lane is not as long as counted
-  pub give_up_mismatch : eqb (length (lanes sh leaf)) counts ≡ false → (w : ℕ) → Step K (state_of t sh w) (give_up g) (refused LaneMismatch) (state_of t sh w)
-  give_up_mismatch off w = subst (λ p. Step K (at K t g sh w p) (give_up g) (refused LaneMismatch) (at K t g sh w p)) (sym opened) (refuse K (now w) (give_up g) 1 LaneMismatch (right w, (not_from_false _ off, refl)))
-
+  -- the lane is not as long as counted, or its head costs otherwise
   pub end_mismatch : (eqb (length (lanes sh leaf)) counts ≡ false) ⊎ (head_cost K (lanes sh leaf) ≡ cost → ⊥) → (w : ℕ) → Step K (state_of t sh w) (end_turn g) (refused LaneMismatch) (state_of t sh w)
   end_mismatch off w = subst (λ p. Step K (at K t g sh w p) (end_turn g) (refused LaneMismatch) (at K t g sh w p)) (sym opened)
       (refuse K (now w) (end_turn g) 1 LaneMismatch (right w, (⊎_elim (λ e. or_left _ _ (not_from_false _ e)) (λ e. or_right (not (eqb (length (lanes sh leaf)) counts)) _ (not_from_false _ (ne_eqb _ _ e))) off, refl)))
 
   module _ (full : length (lanes sh leaf) ≡ counts) where
     -- the turn is given up: the item stays
-    pub gives_up : (held : T → Held) (u : Tree T I) → Closes held t leaf done false u → (w : ℕ) → Step K (state_of t sh w) (give_up g) (closed done) (state_of u sh w)
-    gives_up held u c w = subst (λ p. Step K (at K t g sh w p) (give_up g) (closed done) (state_of u sh w)) (sym opened)
-        (subst (Step K (now w) (give_up g) (closed done)) (sym (closes_to held t u leaf done false c some sh sh cost w (queued (shape_of t.table) t.queue.loads) (put_same (queued (shape_of t.table) t.queue.loads) leaf) refl (lanes sh) refl))
+    pub gives_up : (u : Tree T I H) → Closes t leaf done false u → (w : ℕ) → Step K (state_of t sh w) (give_up g) (closed done) (state_of u sh w)
+    gives_up u c w = subst (λ p. Step K (at K t g sh w p) (give_up g) (closed done) (state_of u sh w)) (sym opened)
+        (subst (Step K (now w) (give_up g) (closed done)) (sym (closes_to t u leaf done false c some sh sh cost w (queued (shape_of t.queue.table) t.queue.loads) (put_same (queued (shape_of t.queue.table) t.queue.loads) leaf) refl (lanes sh) refl))
         (accept K (now w) (give_up g) 0 (names K t g leaf cost done opened is-own sh w, full) (omega arith)))
 
     module _ (costs : head_cost K (lanes sh leaf) ≡ cost) where
@@ -217,8 +166,8 @@ module _ {T I : Type 0} (K : Kind I) (t : Tree T I) (g : Grant) (leaf cost done 
           (refuse K (now w) (end_turn g) 2 NoStoppingPoint (right w, (or_from _ _ (not_from_true _ (eq-eqb _ _ full)) (not_from_true _ (eq-eqb _ _ costs)), (not_from_false _ off, refl))))
 
       -- the turn is ended: the item leaves, or what is left takes its place
-      pub ends : may_stop K (lanes sh leaf) done ≡ true → (held : T → Held) (u : Tree T I) → Closes held t leaf done (eqb done cost) u → (sh' : Shelf I) → room sh' ≡ room sh → lanes sh' ≡ put (lanes sh) leaf (rules.settled K (lanes sh leaf) done) → (w : ℕ) →
+      pub ends : may_stop K (lanes sh leaf) done ≡ true → (u : Tree T I H) → Closes t leaf done (eqb done cost) u → (sh' : Shelf I K) → room sh' ≡ room sh → lanes sh' ≡ put (lanes sh) leaf (rules.settled K (lanes sh leaf) done) → (w : ℕ) →
           Step K (state_of t sh w) (end_turn g) (closed done) (state_of u sh' w)
-      ends stops held u c sh' rooms lane w = subst (λ p. Step K (at K t g sh w p) (end_turn g) (closed done) (state_of u sh' w)) (sym opened)
-          (subst (Step K (now w) (end_turn g) (closed done)) (sym (closes_to held t u leaf done (eqb done cost) c some sh sh' cost w (put (queued (shape_of t.table) t.queue.loads) leaf (cond (eqb done cost) (counts - 1) counts)) (λ _. refl) rooms _ lane))
+      ends stops u c sh' rooms lane w = subst (λ p. Step K (at K t g sh w p) (end_turn g) (closed done) (state_of u sh' w)) (sym opened)
+          (subst (Step K (now w) (end_turn g) (closed done)) (sym (closes_to t u leaf done (eqb done cost) c some sh sh' cost w (put (queued (shape_of t.queue.table) t.queue.loads) leaf (cond (eqb done cost) (counts - 1) counts)) (λ _. refl) rooms _ lane))
           (accept K (now w) (end_turn g) 0 (names K t g leaf cost done opened is-own sh w, record { full = full; cost = costs; stops = stops }) (omega arith)))

@@ -1,8 +1,9 @@
 -- A turn begins: what the walk makes of the loads is what the rules say of a dispatch. Assumes nothing.
-use Rattle.std.proofs.Common.{◌≡◌, ℕ, ◌+◌, ◌<◌, ◌≤◌, Bool, true, false, cond, not, ◌&&◌, eqb, ltb, ◌⊎◌, List, length, Some, None, Option, sym, refl, ap, ◌∙◌, subst, inl, inr, ⊎_elim, arith}
+use Rattle.std.proofs.Common.{◌≡◌, ℕ, ◌+◌, ◌<◌, ◌≤◌, true, false, cond, not, ◌&&◌, eqb, ltb, ◌⊎◌, List, length, Some, None, Option, sym, refl, ap, ◌∙◌, subst, inl, inr, ⊎_elim, arith}
+use mathlib.Core.Bool.{and-false}
 use mathlib.Core.Path.{fun_ext}
 use Rattle.std.proofs.lemmas.Bool.{cases_Bool, cond-true, cond-false, and_left, and_from, and_parts, or_left, or_right, not_from_true, not_from_false, not-true, lt-ltb, le-leb, eq-eqb, eqb-false, both_ways}
-use Rattle.base.specs.declared.refusal.Refusal.TheVariants.{TurnOpen, NothingBacklogged, LaneMismatch, LimitReached}
+use Rattle.base.specs.declared.refusal.Refusal.TheVariants.{NothingBacklogged, LaneMismatch, LimitReached}
 use Rattle.classes.specs.Tables.{shape_of, weight_of}
 use Rattle.classes.proofs.Tables.{shape_sound}
 use Rattle.rules.specs.Kind.{Kind}
@@ -19,15 +20,17 @@ use Rattle.shelf.specs.Chains.{first}
 use Rattle.shelf.specs.Lanes.{lanes, room}
 use Rattle.shelf.specs.declared.shelf.Shelf.{Shelf}
 use Rattle.tags.specs.Held.{Held}
+use Rattle.tags.specs.declared.TagStore.{Ghosts as TagStore}
 use Rattle.tree.specs.Counts.{queued, Counted}
 use Rattle.tree.specs.Loads.{load, Stocked}
 use Rattle.tree.specs.Walks.{pick, Advanced}
 use Rattle.tree.specs.Turns.{turn}
 use Rattle.tree.specs.States.{tags, state}
-use Rattle.tree.specs.Trees.{state_of, InStep}
+use Rattle.tree.specs.Trees.{state_of}
 use Rattle.tree.specs.declared.load.Load.{Load}
 use Rattle.tree.specs.declared.phase.Phase.{Phase}
 use Rattle.tree.specs.declared.phase.Phase.TheVariants.{Free, Open}
+use Rattle.tree.specs.declared.queue.Queue.{Queue}
 use Rattle.tree.specs.declared.tree.Tree.{Tree}
 use Rattle.tree.proofs.Counts.{leaves, busy_backlog}
 use Rattle.tree.proofs.Picks.{pair_of, pick_is}
@@ -40,10 +43,6 @@ module _ (t : Shape) (ls ms : List Load) (c : ℕ) (moved : Advanced t c ls ms) 
 
   pub advanced_counted : Counted t ls → Counted t ms
   advanced_counted counted k = (moved.same k).0 ∙ counted k ∙ ap (λ q. sum (λ l. cond (under t k l) (q l) 0) t.count) (sym (fun_ext {f = queued t ms} {g = queued t ls} advanced_queued))
-
-  -- the store stays in step
-  pub advanced_stocked : (h : Held) → Stocked t h ls → Stocked t h ms
-  advanced_stocked h was k = was k ∙ (λ i. cond (ltb 0 k && ltb 0 (sym (moved.same k).0 i)) (Some (t.parent k, sym (moved.same k).1 i)) None)
 
   module _ (ok : Sound t) (lt : c < t.count) where
     -- a node of the path above c takes the start tag of its child on the path
@@ -89,8 +88,8 @@ module _ {I : Type 0} (house : ℕ) (t : Shape) (w : ℕ → ℕ) (ls : List Loa
           | inl on ↦ elim (cases_Bool (leaf t k)) [
             | inl end ↦
                 let is : k ≡ picked s = sym (leaf_alone ok chosen.known end (under_below ok on)) in
-                let stays : (under t k (picked s) && not (eqb k (picked s))) ≡ false = rw (eq-eqb k (picked s) is) (and_off (under t k (picked s))) in
-                let rests : (under t k (picked s) && not (leaf t k)) ≡ false = rw end (and_off (under t k (picked s))) in
+                let stays : (under t k (picked s) && not (eqb k (picked s))) ≡ false = rw (eq-eqb k (picked s) is) (and-false (under t k (picked s))) in
+                let rests : (under t k (picked s) && not (leaf t k)) ≡ false = rw end (and-false (under t k (picked s))) in
                 ap (λ v. v.0) (moved.off k stays) ∙ sym (cond-false (under t k (picked s) && not (leaf t k)) new old rests)
             | inr inner ↦
                 let (d, pos, is, below, takes) = passed t ls ms (picked s) moved ok chosen.known k on (λ e. both_ways _ inner (subst (λ l. leaf t l ≡ true) e chosen.ends)) in
@@ -99,10 +98,6 @@ module _ {I : Type 0} (house : ℕ) (t : Shape) (w : ℕ → ℕ) (ls : List Loa
                 ∙ sym (cond-true (under t k (picked s) && not (leaf t k)) new old (and_from _ _ on (not_from_false _ inner)))
           ]
         ]
-      where
-        and_off : (a : Bool) → (a && false) ≡ false
-        and_off true = refl
-        and_off false = refl
 
     -- the state is the one that the rules leave
     pub dispatch_leaves : (K : Kind I) → state house t w ms (Open (picked s) (head_cost K (lane (picked s))) 0) meter (turns + 1) places lane work ≡ effect K s dispatch 0
@@ -125,9 +120,9 @@ module _ {I : Type 0} (house : ℕ) (t : Shape) (w : ℕ → ℕ) (ls : List Loa
     }
 
 -- a dispatch of a tree with a shelf
-module _ {T I : Type 0} (K : Kind I) (t : Tree T I) (sh : Shelf I) where
+module _ {T I : Type 0} {H : TagStore T} (K : Kind I) (t : Tree T I H) (sh : Shelf I K) where
   abbrev shape : Shape
-  shape = shape_of t.table
+  shape = shape_of t.queue.table
 
   abbrev ls : List Load
   ls = t.queue.loads
@@ -135,20 +130,16 @@ module _ {T I : Type 0} (K : Kind I) (t : Tree T I) (sh : Shelf I) where
   abbrev now : ℕ → State I
   now w = state_of t sh w
 
-  -- a turn is open already
-  pub open_already : is_open (turn t.phase) ≡ true → (w : ℕ) → Step K (now w) dispatch (refused TurnOpen) (now w)
-  open_already e w = refuse K (now w) dispatch 0 TurnOpen (e, refl)
-
-  module _ (held : T → Held) (free : t.phase ≡ Free) (ins : InStep held t) where
+  module _ (free : t.phase ≡ Free) where
     abbrev choice : Option ℕ
-    choice = pick (held t.queue.store) (leaf shape 0) (load ls 0).backlog
+    choice = pick (H.held t.queue.store) (leaf shape 0) (load ls 0).backlog
 
     is_free : (w : ℕ) → is_open (now w).phase ≡ false
     is_free w = ap (λ p. is_open (turn p)) free
 
     choice_is : (w : ℕ) → choice ≡ cond (backlogged (now w) 0) (Some (picked (now w))) None
-    choice_is w = pick_is (now w) (shape_sound t.table) (leaves shape ls) (held t.queue.store)
-        (stocked_stands t.house shape (weight_of t.table) ls t.phase t.meter.0 t.turns (room sh) (lanes sh) w (shape_sound t.table) t.counted (held t.queue.store) ins)
+    choice_is w = pick_is (now w) (shape_sound t.queue.table) (leaves shape ls) (H.held t.queue.store)
+        (stocked_stands t.house shape (weight_of t.queue.table) ls t.phase t.meter.0 t.turns (room sh) (lanes sh) w (shape_sound t.queue.table) t.counted (H.held t.queue.store) t.queue.in_step)
         (load ls 0).backlog (sym (busy_backlog shape ls t.counted 0))
 
     -- nothing is backlogged
@@ -168,10 +159,10 @@ module _ {T I : Type 0} (K : Kind I) (t : Tree T I) (sh : Shelf I) where
 
       -- each class on the path to it is the best of its parent's children
       pub chooses : (w : ℕ) → Chosen (now w) r
-      chooses w = let (busy, is) = comes w in subst (Chosen (now w)) (sym is) (picks (now w) (shape_sound t.table) (leaves shape ls) busy).0
+      chooses w = let (busy, is) = comes w in subst (Chosen (now w)) (sym is) (picks (now w) (shape_sound t.queue.table) (leaves shape ls) busy).0
 
       some_items : (w : ℕ) → 0 < queued shape ls r
-      some_items w = let (busy, is) = comes w in subst (λ r. 0 < queued shape ls r) (sym is) (picks (now w) (shape_sound t.table) (leaves shape ls) busy).1
+      some_items w = let (busy, is) = comes w in subst (λ r. 0 < queued shape ls r) (sym is) (picks (now w) (shape_sound t.queue.table) (leaves shape ls) busy).1
 
       -- its lane is not as long as counted
       pub unmatched : None ≡ cond (eqb (length (lanes sh r)) (queued shape ls r)) (first (lanes sh r)) None → (w : ℕ) → Step K (now w) dispatch (refused LaneMismatch) (now w)
@@ -197,12 +188,13 @@ module _ {T I : Type 0} (K : Kind I) (t : Tree T I) (sh : Shelf I) where
             refuse K (now w) dispatch 3 LimitReached (is_free w, (not_from_true _ busy, (matched, (over, refl))))
 
         -- the turn begins
-        pub goes : t.meter.0 + K.costs x ≤ 1000000000000 → t.turns < 1000000000000 → (ms : List Load) → Advanced shape r ls ms → (w : ℕ) →
-            Step K (now w) dispatch (granted (record { house = t.house; turn = t.turns + 1 }) r (K.costs x)) (state t.house shape (weight_of t.table) ms (Open r (K.costs x) 0) t.meter.0 (t.turns + 1) (room sh) (lanes sh) w)
-        goes low few ms moved w =
+        pub goes : t.meter.0 + K.costs x ≤ 1000000000000 → t.turns < 1000000000000 → (q : Queue T H) → q.table ≡ t.queue.table → Advanced shape r ls q.loads → (w : ℕ) →
+            Step K (now w) dispatch (granted (record { house = t.house; turn = t.turns + 1 }) r (K.costs x)) (state t.house (shape_of q.table) (weight_of q.table) q.loads (Open r (K.costs x) 0) t.meter.0 (t.turns + 1) (room sh) (lanes sh) w)
+        goes low few q table moved w =
             let (busy, is) = comes w in
-            let Goes : ℕ → ℕ → Type 0 = λ r c. Step K (now w) dispatch (granted (record { house = t.house; turn = t.turns + 1 }) r c) (state t.house shape (weight_of t.table) ms (Open r c 0) t.meter.0 (t.turns + 1) (room sh) (lanes sh) w) in
+            let Goes : ℕ → ℕ → Type 0 = λ r c. Step K (now w) dispatch (granted (record { house = t.house; turn = t.turns + 1 }) r c) (state t.house (shape_of q.table) (weight_of q.table) q.loads (Open r c 0) t.meter.0 (t.turns + 1) (room sh) (lanes sh) w) in
             let made = accept K (now w) dispatch 0 (record { free = ap turn free; busy = busy; full = subst (λ r. length (lanes sh r) ≡ queued shape ls r) is full; meter = subst (λ c. t.meter.0 + c ≤ 1000000000000) (price w) low; turns = few }) (omega arith) in
-            let left = dispatch_leaves t.house shape (weight_of t.table) ls t.phase t.meter.0 t.turns (room sh) (lanes sh) w (shape_sound t.table) t.counted busy ms (subst (λ r. Advanced shape r ls ms) is moved) K in
+            let left = (λ i. state t.house (shape_of (table i)) (weight_of (table i)) q.loads (Open (picked (now w)) (head_cost K (lanes sh (picked (now w)))) 0) t.meter.0 (t.turns + 1) (room sh) (lanes sh) w)
+            ∙ dispatch_leaves t.house shape (weight_of t.queue.table) ls t.phase t.meter.0 t.turns (room sh) (lanes sh) w (shape_sound t.queue.table) t.counted busy q.loads (subst (λ r. Advanced shape r ls q.loads) is moved) K in
             subst (λ r. Goes r (K.costs x)) (sym is) (subst (Goes (picked (now w))) (sym (price w))
             (subst (Step K (now w) dispatch (granted (record { house = t.house; turn = t.turns + 1 }) (picked (now w)) (head_cost K (lanes sh (picked (now w)))))) (sym left) made))

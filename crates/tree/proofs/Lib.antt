@@ -1,6 +1,7 @@
 pub mod Marks
 pub mod Paths
 pub mod Writes
+pub mod Stocks
 pub mod Waking
 pub mod Settling
 pub mod Charging
@@ -16,4 +17,4 @@ pub mod Dispatches
 pub mod Grants
 pub mod Closings
 pub mod Openings
-pub mod Calls
+pub mod Exits

@@ -1,8 +1,8 @@
 -- The way up from a class to the root, by the test `under`.
 use Rattle.std.proofs.Common.{◌≡◌, ℕ, suc, ◌<◌, Bool, true, false, cond, not, ◌&&◌, ◌||◌, eqb, ltb, IfSome, Some, None, Option, sym, refl, ap, ◌∙◌, subst, inl, inr, arith}
 use mathlib.Core.Path.{fun_ext}
-use mathlib.Core.Bool.{and-true, or-false}
-use Rattle.std.proofs.lemmas.Bool.{and_from, and_parts, cases_Bool, cases_eq, ltb-true, eq-eqb, ne_eqb, eqb-true, lt-ltb, or_cases, or_left, or_right, and_left}
+use mathlib.Core.Bool.{and-true, and-not_self, or-false}
+use Rattle.std.proofs.lemmas.Bool.{and_from, and_parts, cases_Bool, cases_eq, ltb-true, eq-eqb, ne_eqb, eqb-true, lt-ltb, or_cases, or_left, or_right}
 use Rattle.rules.specs.Shape.{Shape, Sound, under}
 use Rattle.rules.proofs.Tests.{no_test, not_some, same_test, some_same}
 use Rattle.rules.proofs.Tree.{Below, here, up, below_under, under_below, under_le, under_parent, under_root}
@@ -41,10 +41,6 @@ OnPath t leaf next = IfSome next (λ c. under t c leaf ≡ true)
 abbrev pub Walked : Shape → ℕ → ((ℕ → Bool) → Type 0) → Option ℕ → Type 0
 Walked t leaf R next = OnPath t leaf next × R (came t leaf next)
 
-none_yet : (b : Bool) → (b && not b) ≡ false
-none_yet true = refl
-none_yet false = refl
-
 and_not : (a b : Bool) → b ≡ true → (a && not b) ≡ false
 and_not true b e = ap not e
 and_not false b e = refl
@@ -82,16 +78,11 @@ module _ {t : Shape} (ok : Sound t) where
 
     -- at first the walk has come by no class
     pub walk_none : (R : (ℕ → Bool) → Type 0) → R (λ _. false) → Walked t leaf R (Some leaf)
-    walk_none R none = (under_self known, subst R (sym (fun_ext {f = came t leaf (Some leaf)} {g = λ _. false} (λ j. none_yet (under t j leaf)))) none)
+    walk_none R none = (under_self known, subst R (sym (fun_ext {f = came t leaf (Some leaf)} {g = λ _. false} (λ j. and-not_self (under t j leaf)))) none)
 
     -- past the root it has come by all of the path
     pub walk_all : (R : (ℕ → Bool) → Type 0) (next : Option ℕ) → next ≡ None → Walked t leaf R next → R (λ j. under t j leaf)
     walk_all R next is (on, was) = subst (λ o. R (came t leaf o)) is was
-
-    -- it comes by no class with a larger number than the leaf
-    pub came_not : (next : Option ℕ) (k : ℕ) → leaf < k → came t leaf next k ≡ false
-    came_not None k l = under_not k leaf l
-    came_not (Some c) k l = and_left (under t k leaf) (not (under t k c)) (under_not k leaf l)
 
     -- once the walk has come by class c too, the node above that is next
     step_some : (c : ℕ) → 0 < c → under t c leaf ≡ true → (j : ℕ) → came t leaf (Some (t.parent c)) j ≡ (came t leaf (Some c) j || eqb c j)
@@ -129,13 +120,6 @@ module _ {t : Shape} (ok : Sound t) where
 
       pub next_known : c < t.count
       next_known = path_known on_path
-
-      -- fewer classes are to come after it
-      pub next_falls : (next' : Option ℕ) → next' ≡ above t c → to_come next' < to_come next
-      next_falls next' e = rw (e, is) (elim (cases_eq c 0) [
-        | inl z ↦ subst (λ c. to_come (above t c) < suc c) (sym z) (omega arith)
-        | inr z ↦ rw (lt-ltb 0 c (omega arith), lt-ltb c t.count next_known) (omega (arith, ok.earlier c (omega arith)))
-      ])
 
       -- it and the node above it are still to come
       pub next_new : (came t leaf next c ≡ false) × (came t leaf next (t.parent c) ≡ false)

@@ -1,20 +1,18 @@
 -- Settling one class after another settles them all.
-use Rattle.std.proofs.Common.{◌≡◌, ℕ, ◌+◌, ◌-◌, ◌<◌, ◌≤◌, max, Bool, true, false, cond, not, ◌&&◌, ◌||◌, eqb, ltb, List, Some, None, Option, sym, refl, ap, ◌∙◌, inl, inr, arith}
+use Rattle.std.proofs.Common.{◌≡◌, ℕ, ◌+◌, ◌-◌, ◌<◌, max, Bool, true, false, cond, not, ◌&&◌, ◌||◌, eqb, ltb, List, Some, Option, sym, refl, ap, ◌∙◌, inl, inr}
 use mathlib.Core.Bool.{and-false, or-false}
 use Rattle.std.proofs.lemmas.Bool.{cases_eq, ne_eqb}
 use Rattle.base.specs.Charge.{charged}
-use Rattle.tags.specs.Held.{Held}
-use Rattle.rules.specs.Shape.{Shape, Sound, under}
-use Rattle.tree.specs.Loads.{load, stocked}
+use Rattle.rules.specs.Shape.{Shape, Sound}
+use Rattle.tree.specs.Loads.{load}
 use Rattle.tree.specs.Walks.{rests, settled}
 use Rattle.tree.specs.declared.load.Load.{Load}
 use Rattle.tree.proofs.Marks.{unmarked}
-use Rattle.tree.proofs.Paths.{above, came, came_not, Walked, walk_none, walk_all, walk_more, next_new}
+use Rattle.tree.proofs.Paths.{above, came, Walked, walk_none, walk_more, next_new}
 
--- the loads ms and the store h' are what the loads ls and the store h are once the marked classes are settled
-pub record Settled (t : Shape) (w : ℕ → ℕ) (d : ℕ) (gone : Bool) (ls ms : List Load) (h h' : Held) (on : ℕ → Bool) : Type 0 where
-  pub loads : (k : ℕ) → load ms k ≡ settled t w ls on d gone k
-  pub held : (k : ℕ) → h' k ≡ cond (ltb 0 k && on k) (stocked t ms k) (h k)
+-- the loads ms are what the loads ls are once the marked classes are settled
+abbrev pub Settled : Shape → (ℕ → ℕ) → ℕ → Bool → List Load → List Load → (ℕ → Bool) → Type 0
+Settled t w d gone ls ms on = (k : ℕ) → load ms k ≡ settled t w ls on d gone k
 
 -- the load l of a class that is marked where `o`
 abbrev pub less : Bool → Bool → Load → ℕ
@@ -37,10 +35,6 @@ settle pos o gone l charge v r = record {
   finish = record { 0 = cond (pos && r) 0 (reach pos o l charge) };
   vtime = record { 0 = cond (idle o gone l) 0 l.vtime.0 };
 }
-
-both : (b : Bool) → ◌≡◌ {A = ℕ} (cond b 0 0) 0
-both true = refl
-both false = refl
 
 -- what is 0 twice is 0
 twice : (pos r r' : Bool) (x : ℕ) → cond (pos && r') 0 (cond (pos && r) 0 x) ≡ cond (pos && (r || r')) 0 x
@@ -117,71 +111,22 @@ module _ (t : Shape) (w : ℕ → ℕ) (d : ℕ) (gone : Bool) where
           ∙ (λ i. settle (ltb 0 k) (sym (marked k n) i) gone (load ls k) (charged d (w k)) (load ls (t.parent k)).vtime.0 (sym (rests_more (t.parent k)) i))
     ]
 
-    -- what stands in the store for a marked class stays
-    module _ (ns : List Load) (more : (k : ℕ) → load ns k ≡ settled t w ms (eqb c) d gone k) (h h' h'' : Held) (had : (k : ℕ) → h' k ≡ cond (ltb 0 k && on k) (stocked t ms k) (h k)) (has : (k : ℕ) → h'' k ≡ cond (ltb 0 k && eqb c k) (stocked t ns k) (h' k)) where
-      kept : (k : ℕ) → (c ≡ k → ⊥) → stocked t ms k ≡ stocked t ns k
-      kept k n =
-          let backlog : (load ms k).backlog ≡ (load ns k).backlog = sym (ap (λ l. l.backlog) (more k) ∙ ap (λ o. less o gone (load ms k)) (ne_eqb c k n)) in
-          let start : (load ms k).start ≡ (load ns k).start = sym (ap (λ l. l.start) (more k) ∙
-          (λ i. record { 0 = restart (ltb 0 k) (ne_eqb c k n i) gone (load ms k) (charged d (w k)) (load ms (t.parent k)).vtime.0 }) ∙
-          (λ i. record { 0 = cond (unmarked (ltb 0 k) (ltb 0 (load ms k).backlog) i) (max (load ms (t.parent k)).vtime.0 (reach (ltb 0 k) false (load ms k) (charged d (w k)))) (load ms k).start.0 })) in
-          (λ i. cond (ltb 0 k && ltb 0 (backlog i)) (Some (t.parent k, start i)) None)
-
-      held_more : (k : ℕ) → h'' k ≡ cond (ltb 0 k && (on k || eqb c k)) (stocked t ns k) (h k)
-      held_more k = has k ∙ elim (cases_eq c k) [
-        | inl e ↦
-            let off : on k ≡ false = sym (ap on e) ∙ new in
-            (λ i. cond (ltb 0 k && sym (added k off) i) (stocked t ns k) ((had k ∙ ap (λ o. cond (ltb 0 k && o) (stocked t ms k) (h k)) off ∙ ap (λ b. cond b (stocked t ms k) (h k)) (and-false (ltb 0 k))) i))
-        | inr n ↦
-            ap (λ o. cond (ltb 0 k && o) (stocked t ns k) (h' k)) (ne_eqb c k n)
-            ∙ ap (λ b. cond b (stocked t ns k) (h' k)) (and-false (ltb 0 k))
-            ∙ had k
-            ∙ (λ i. cond (ltb 0 k && sym (marked k n) i) (kept k n i) (h k))
-      ]
-
-  -- at first no class is marked
-  pub settled_none : (ls : List Load) (h : Held) → Settled t w d gone ls ls h h (λ _. false)
-  settled_none ls h = record {
-    loads = λ k. sym (settled_off ls (λ _. false) k refl refl);
-    held = λ k. ap (λ b. cond b (stocked t ls k) (h k)) (sym (and-false (ltb 0 k)));
-  }
-
-  -- then one more
-  pub settled_step : (ls ms ns : List Load) (h h' h'' : Held) (on : ℕ → Bool) (c : ℕ) → Settled t w d gone ls ms h h' on → on c ≡ false → on (t.parent c) ≡ false → Settled t w d gone ms ns h' h'' (eqb c) → Settled t w d gone ls ns h h'' (λ j. on j || eqb c j)
-  settled_step ls ms ns h h' h'' on c was new new' more = record {
-    loads = λ k. more.loads k ∙ settled_more ls ms on was.loads c new new' k;
-    held = held_more ls ms on was.loads c new new' ns more.loads h h' h'' was.held more.held;
-  }
-
   -- along a path
-  module _ (ok : Sound t) (leaf : ℕ) (known : leaf < t.count) (ls : List Load) (h : Held) where
-    abbrev pub Settling : List Load → Held → Option ℕ → Type 0
-    Settling ms h' next = Walked t leaf (Settled t w d gone ls ms h h') next
+  module _ (ok : Sound t) (leaf : ℕ) (known : leaf < t.count) (ls : List Load) where
+    abbrev pub Settling : List Load → Option ℕ → Type 0
+    Settling ms next = Walked t leaf (Settled t w d gone ls ms) next
 
-    pub settling_none : Settling ls h (Some leaf)
-    settling_none = walk_none ok leaf known (Settled t w d gone ls ls h h) (settled_none ls h)
+    pub settling_none : Settling ls (Some leaf)
+    settling_none = walk_none ok leaf known (Settled t w d gone ls ls) (λ k. sym (settled_off ls (λ _. false) k refl refl))
 
-    pub settling_all : (ms : List Load) (h' : Held) (next : Option ℕ) → next ≡ None → Settling ms h' next → Settled t w d gone ls ms h h' (λ j. under t j leaf)
-    settling_all ms h' next is was = walk_all ok leaf known (Settled t w d gone ls ms h h') next is was
-
-    -- rows past the tree stay blank
-    pub settling_blank : (ms : List Load) (h' : Held) (next : Option ℕ) → Settling ms h' next → ((k : ℕ) → t.count ≤ k → (load ls k).finish.0 ≡ 0) → (k : ℕ) → t.count ≤ k → (load ms k).finish.0 ≡ 0
-    settling_blank ms h' next was blank k past =
-        let off = came_not ok leaf known next k (omega arith) in
-        ap (λ l. l.finish.0) (was.1.loads k)
-        ∙ ap (λ o. cond (ltb 0 k && rests t w ls (came t leaf next) d gone (t.parent k)) 0 (reach (ltb 0 k) o (load ls k) (charged d (w k)))) off
-        ∙ ap (λ b. cond (ltb 0 k && rests t w ls (came t leaf next) d gone (t.parent k)) 0 (cond b ((load ls k).start.0 + charged d (w k)) (load ls k).finish.0)) (and-false (ltb 0 k))
-        ∙ ap (λ x. cond (ltb 0 k && rests t w ls (came t leaf next) d gone (t.parent k)) 0 x) (blank k past)
-        ∙ both (ltb 0 k && rests t w ls (came t leaf next) d gone (t.parent k))
-
-    module _ (ms : List Load) (h' : Held) (next : Option ℕ) (c : ℕ) (is : next ≡ Some c) (was : Settling ms h' next) where
+    module _ (ms : List Load) (next : Option ℕ) (c : ℕ) (is : next ≡ Some c) (was : Settling ms next) where
       next_off : (came t leaf next c ≡ false) × (came t leaf next (t.parent c) ≡ false)
       next_off = next_new ok leaf known next c is was.0
 
       -- the next class is as it was
       pub settling_here : load ms c ≡ load ls c
-      settling_here = was.1.loads c ∙ settled_off ls (came t leaf next) c next_off.0 next_off.1
+      settling_here = was.1 c ∙ settled_off ls (came t leaf next) c next_off.0 next_off.1
 
-      pub settling_more : (ns : List Load) (h'' : Held) (next' : Option ℕ) → next' ≡ above t c → Settled t w d gone ms ns h' h'' (eqb c) → Settling ns h'' next'
-      settling_more ns h'' next' e more =
-          walk_more ok leaf known next c is was.0 (Settled t w d gone ls ns h h'') next' e (settled_step ls ms ns h h' h'' (came t leaf next) c was.1 next_off.0 next_off.1 more)
+      pub settling_more : (ns : List Load) (next' : Option ℕ) → next' ≡ above t c → Settled t w d gone ms ns (eqb c) → Settling ns next'
+      settling_more ns next' e more =
+          walk_more ok leaf known next c is was.0 (Settled t w d gone ls ns) next' e (λ k. more k ∙ settled_more ls ms (came t leaf next) was.1 c next_off.0 next_off.1 k)

@@ -19,7 +19,7 @@ sum_below_is f zero = refl
 sum_below_is f (suc n) = ap (λ x. f n + x) (sum_below_is f n)
 
 -- the number of lanes stays a variable here, since a sum up to a numeral would be written out
-module _ {I : Type 0} (sh : Shelf I) where
+module _ {I : Type 0} {K : Kind I} (sh : Shelf I K) where
   filled : (n : ℕ) → n ≡ 64 → sum (λ l. length (lanes sh l)) n + free sh ≡ room sh
   filled n e = ap (λ x. x + free sh) (sym (sum_below_is (λ l. length (lanes sh l)) n)) ∙ stored_below sh n e
 

@@ -1,11 +1,10 @@
 -- An item more in the lane of a leaf: what the walk makes of the loads is what the rules say of a submission. Assumes nothing.
-use Rattle.std.proofs.Common.{◌≡◌, ℕ, ◌+◌, ◌<◌, ◌≤◌, max, Bool, true, false, cond, not, ◌&&◌, eqb, ltb, leb, ◌⊎◌, List, [], ◌∷◌, ◌++◌, length, Some, None, Option, sym, refl, ap, ◌∙◌, subst, inl, inr, ⊎_elim, arith}
+use Rattle.std.proofs.Common.{◌≡◌, ℕ, ◌+◌, ◌<◌, ◌≤◌, max, Bool, true, false, cond, not, ◌&&◌, eqb, ltb, leb, List, [], ◌∷◌, ◌++◌, length, sym, refl, ap, ◌∙◌, subst, arith}
 use mathlib.Core.Path.{fun_ext}
-use Rattle.std.proofs.lemmas.Bool.{cases_eq, cond_both, eq-eqb, eqb-true, ne_eqb, lt-ltb, le-ltb, le-leb, lt-leb, and_from, and_left, and_right, not_from_true, not_from_false}
+use Rattle.std.proofs.lemmas.Bool.{cond_both, eqb-true, lt-ltb, le-leb, and_from, not_from_true}
 use Rattle.std.proofs.lemmas.Bool.Decides.{nat_tests}
-use Rattle.base.specs.declared.refusal.Refusal.TheVariants.{UnknownClass, NotALeaf, BadCost, LaneMismatch, ShelfFull}
-use Rattle.base.specs.declared.units.Parts.{Parts}
-use Rattle.classes.specs.Tables.{shape_of, weight_of}
+use Rattle.base.specs.declared.refusal.Refusal.TheVariants.{ShelfFull}
+use Rattle.classes.specs.Tables.{class_count, shape_of, weight_of}
 use Rattle.classes.proofs.Tables.{shape_sound}
 use Rattle.rules.specs.Kind.{Kind}
 use Rattle.rules.specs.Shape.{Shape, Sound, under, leaf}
@@ -16,15 +15,16 @@ use Rattle.rules.proofs.Calls.{accept, refuse}
 use Rattle.shelf.specs.Lanes.{lanes, room}
 use Rattle.shelf.specs.Lanes as shelf
 use Rattle.shelf.specs.declared.shelf.Shelf.{Shelf}
-use Rattle.tags.specs.Held.{Held, free}
+use Rattle.tags.specs.declared.TagStore.{Ghosts as TagStore}
 use Rattle.tree.specs.Counts.{queued, Counted}
-use Rattle.tree.specs.Loads.{load, Stocked}
-use Rattle.tree.specs.Walks.{wakes, woken, woken_held}
+use Rattle.tree.specs.Loads.{load}
+use Rattle.tree.specs.Walks.{wakes, woken}
 use Rattle.tree.specs.Turns.{turn}
 use Rattle.tree.specs.States.{tags, state}
 use Rattle.tree.specs.Trees.{state_of}
 use Rattle.tree.specs.declared.load.Load.{Load}
 use Rattle.tree.specs.declared.phase.Phase.{Phase}
+use Rattle.tree.specs.declared.queue.Queue.{Queue}
 use Rattle.tree.specs.declared.tree.Tree.{Tree}
 use Rattle.tree.proofs.Counts.{busy_backlog, queued_put, counted_put, few_put}
 use Rattle.tree.proofs.Shelves.{stored_room, lane_low, lane_put}
@@ -32,22 +32,6 @@ use Rattle.tree.proofs.Shelves.{stored_room, lane_low, lane_put}
 -- no item is counted
 none_counted : (n : ℕ) → eqb n 0 ≡ not (ltb 0 n)
 none_counted n = grind (arith, nat_tests)
-
--- a pair of the store, where z says that the class is not the root, o that it is on the path, b is its backlog, p its parent, s its start
--- tag and m the tag it wakes with
-wake_pair : (z o : Bool) (b p : ℕ) (s : Parts) (m : ℕ) (x : Option (ℕ × Parts)) → x ≡ cond (z && ltb 0 b) (Some (p, s)) None →
-    cond (z && o && eqb b 0 && free x) (Some (p, record { 0 = cond (z && o && eqb b 0) m s.0 })) x
-    ≡ cond (z && ltb 0 (cond o (b + 1) b)) (Some (p, record { 0 = cond (z && o && eqb b 0) m s.0 })) None
-wake_pair false o b p s m x e = e
-wake_pair true false b p s m x e = e
-wake_pair true true b p s m x e = elim (cases_eq b 0) [
-  | inl none ↦
-      let x-none : x ≡ None = rw (le-ltb 0 b (omega arith)) at e in
-      rw (eq-eqb b 0 none, x-none, lt-ltb 0 (b + 1) (omega arith)) refl
-  | inr some ↦
-      let x-some : x ≡ Some (p, s) = rw (lt-ltb 0 b (omega arith)) at e in
-      rw (ne_eqb b 0 some, lt-ltb 0 (b + 1) (omega arith)) x-some
-]
 
 -- one more on the path
 one_more : (u : Bool) (b q : ℕ) → cond u (b + 1) b + cond u q 0 ≡ b + cond u (q + 1) 0
@@ -57,13 +41,6 @@ one_more false b q = refl
 module _ (t : Shape) (ls ms : List Load) (c : ℕ) (loads : (k : ℕ) → load ms k ≡ woken t ls (λ j. under t j c) k) where
   abbrev on : ℕ → Bool
   on j = under t j c
-
-  -- the store is in step again
-  pub woken_stocked : (h h' : Held) → Stocked t h ls → ((k : ℕ) → h' k ≡ woken_held t ls on h k) → Stocked t h' ms
-  woken_stocked h h' was wrote k =
-      wrote k
-      ∙ wake_pair (ltb 0 k) (on k) (load ls k).backlog (t.parent k) (load ls k).start (max (load ls (t.parent k)).vtime.0 (load ls k).finish.0) (h k) (was k)
-      ∙ ap (λ l. cond (ltb 0 k && ltb 0 l.backlog) (Some (t.parent k, l.start)) None) (sym (loads k))
 
   -- no tag passes the limit
   pub woken_within : (m : ℕ) → Within (tags ls) m → Within (tags ms) m
@@ -117,37 +94,21 @@ module _ (t : Shape) (ls ms : List Load) (c : ℕ) (loads : (k : ℕ) → load m
         idle k = none_counted (load ls k).backlog ∙ ap not (sym (busy_backlog t ls counted k))
 
 -- a submission to a tree with a shelf
-module _ {T I : Type 0} (K : Kind I) (t : Tree T I) (sh : Shelf I) (c : ℕ) (x : I) where
+module _ {T I : Type 0} {H : TagStore T} (K : Kind I) (t : Tree T I H) (sh : Shelf I K) (c : ℕ) (x : I) where
   abbrev shape : Shape
-  shape = shape_of t.table
+  shape = shape_of t.queue.table
 
   abbrev s : ℕ → State I
   s w = state_of t sh w
 
-  -- the class is not in the tree
-  pub unknown : t.table.len ≤ c → (w : ℕ) → Step K (s w) (submit c x) (refused UnknownClass) (s w)
-  unknown past w = refuse K (s w) (submit c x) 0 UnknownClass (not_from_false _ (le-ltb c t.table.len past), refl)
-
-  module _ (known : c < t.table.len) where
-    in_tree : not (ltb c t.table.len) ≡ false
-    in_tree = not_from_true _ (lt-ltb c t.table.len known)
-
-    -- it is no leaf
-    pub inner : leaf shape c ≡ false → (w : ℕ) → Step K (s w) (submit c x) (refused NotALeaf) (s w)
-    inner off w = refuse K (s w) (submit c x) 1 NotALeaf (in_tree, (not_from_false _ off, refl))
+  module _ (known : c < class_count t.queue.table) where
+    in_tree : not (ltb c (class_count t.queue.table)) ≡ false
+    in_tree = not_from_true _ (lt-ltb c (class_count t.queue.table) known)
 
     module _ (end : leaf shape c ≡ true) where
-      -- the cost is out of range
-      pub costs_wrong : (K.costs x < 1) ⊎ (65535 < K.costs x) → (w : ℕ) → Step K (s w) (submit c x) (refused BadCost) (s w)
-      costs_wrong off w = refuse K (s w) (submit c x) 2 BadCost (in_tree, (not_from_true _ end, (not_from_false _ (⊎_elim (λ l. and_left _ _ (lt-leb 1 (K.costs x) l)) (λ l. and_right _ _ (lt-leb (K.costs x) 65535 l)) off), refl)))
-
       module _ (low : 1 ≤ K.costs x) (high : K.costs x ≤ 65535) where
         costs_right : not (leb 1 (K.costs x) && leb (K.costs x) 65535) ≡ false
         costs_right = not_from_true _ (and_from _ _ (le-leb 1 (K.costs x) low) (le-leb (K.costs x) 65535 high))
-
-        -- the lane is not as long as counted
-        pub mismatched : false ≡ eqb (length (lanes sh c)) (queued shape t.queue.loads c) → (w : ℕ) → Step K (s w) (submit c x) (refused LaneMismatch) (s w)
-        mismatched off w = refuse K (s w) (submit c x) 3 LaneMismatch (in_tree, (not_from_true _ end, (costs_right, (not_from_false _ (sym off), refl))))
 
         module _ (full : true ≡ eqb (length (lanes sh c)) (queued shape t.queue.loads c)) where
           -- no place is free
@@ -157,13 +118,13 @@ module _ {T I : Type 0} (K : Kind I) (t : Tree T I) (sh : Shelf I) (c : ℕ) (x 
           module _ (some : 0 < shelf.free sh) where
             -- the lane has room for one more
             pub lane_room : queued shape t.queue.loads c < 256
-            lane_room = subst (λ n. n < 256) (eqb-true _ _ (sym full)) (lane_low sh c (omega (arith, known, t.table.few)) some)
+            lane_room = subst (λ n. n < 256) (eqb-true _ _ (sym full)) (lane_low sh c (omega (arith, known, t.queue.table.few)) some)
 
             -- the item is in its lane, and the path is awake
-            pub enters : (sh' : Shelf I) (ms : List Load) → room sh' ≡ room sh → ((j : ℕ) → lanes sh' j ≡ cond (eqb j c) (lanes sh j ++ x ∷ []) (lanes sh j)) →
-                ((k : ℕ) → load ms k ≡ woken shape t.queue.loads (λ j. under shape j c) k) → (w : ℕ) →
-                Step K (s w) (submit c x) accepted (state t.house shape (weight_of t.table) ms t.phase t.meter.0 t.turns (room sh') (lanes sh') w)
-            enters sh' ms rooms lane loads w = subst (Step K (s w) (submit c x) accepted)
-                (sym ((λ i. state t.house shape (weight_of t.table) ms t.phase t.meter.0 t.turns (rooms i) (lanes sh') w)
-                ∙ submit_leaves shape t.queue.loads ms c loads (shape_sound t.table) t.counted known end K x t.house (weight_of t.table) t.phase t.meter.0 t.turns (room sh) (lanes sh) (lanes sh') w (lane_put (λ l. l ++ x ∷ []) (lanes sh) (lanes sh') c lane)))
+            pub enters : (sh' : Shelf I K) (q : Queue T H) → q.table ≡ t.queue.table → room sh' ≡ room sh → ((j : ℕ) → lanes sh' j ≡ cond (eqb j c) (lanes sh j ++ x ∷ []) (lanes sh j)) →
+                ((k : ℕ) → load q.loads k ≡ woken shape t.queue.loads (λ j. under shape j c) k) → (w : ℕ) →
+                Step K (s w) (submit c x) accepted (state t.house (shape_of q.table) (weight_of q.table) q.loads t.phase t.meter.0 t.turns (room sh') (lanes sh') w)
+            enters sh' q table rooms lane loads w = subst (Step K (s w) (submit c x) accepted)
+                (sym ((λ i. state t.house (shape_of (table i)) (weight_of (table i)) q.loads t.phase t.meter.0 t.turns (rooms i) (lanes sh') w)
+                ∙ submit_leaves shape t.queue.loads q.loads c loads (shape_sound t.queue.table) t.counted known end K x t.house (weight_of t.queue.table) t.phase t.meter.0 t.turns (room sh) (lanes sh) (lanes sh') w (lane_put (λ l. l ++ x ∷ []) (lanes sh) (lanes sh') c lane)))
                 (accept K (s w) (submit c x) 0 (record { known = known; ends = end; low = low; high = high; full = eqb-true _ _ (sym full); room = omega (arith, stored_room sh (s w) refl) }) (omega arith))

@@ -3,6 +3,7 @@ use Rattle.std.specs.Prelude.{◌≡◌, ℕ, ◌+◌, false, Some, None, Ok, Er
 use Rattle.base.specs.declared.refusal.Refusal.{Refusal}
 use Rattle.rules.specs.Rules.{submit, dispatch, pulse, end_turn, give_up, refused, accepted, worked, closed}
 use Rattle.rules.specs.Rules as rules
+use Rattle.tags.specs.declared.TagStore.{Ghosts as TagStore}
 use Rattle.tree.specs.Answers.{grant_of, granted_by}
 use Rattle.tree.specs.Draws.{Drew}
 use Rattle.tree.specs.declared.phase.Phase.{Phase}
@@ -43,7 +44,7 @@ answer_of (Ok a) = answered a
 answer_of (Err e) = refused e.0
 
 -- a grant that is answered is not spent, and has the tree's house number and the number of the new turn
-abbrev pub Unspent : {T I : Type 0} → Tree T I → Result Answer (Refusal × Option Grant) → Type 0
+abbrev pub Unspent : {T I : Type 0} {H : TagStore T} → Tree T I H → Result Answer (Refusal × Option Grant) → Type 0
 Unspent t (Ok a) = elim a [ Accepted ↦ Unit {0} | Granted d ↦ d.grant ≡ record { house = t.house; turn = t.turns + 1; spent = false } | Worked d ↦ Unit {0} | Closed d ↦ Unit {0} ]
 Unspent t (Err e) = Unit {0}
 

@@ -2,23 +2,19 @@
 use Rattle.std.specs.Prelude.{ℕ}
 use Rattle.classes.specs.Tables.{shape_of, weight_of}
 use Rattle.classes.specs.declared.draft.Draft.{Draft}
+use Rattle.rules.specs.Kind.{Kind}
 use Rattle.rules.specs.State.{State, Opening}
 use Rattle.shelf.specs.Lanes.{lanes, room}
 use Rattle.shelf.specs.declared.shelf.Shelf.{Shelf}
-use Rattle.tags.specs.Held.{Held}
-use Rattle.tree.specs.Loads.{Stocked}
+use Rattle.tags.specs.declared.TagStore.{Ghosts as TagStore}
 use Rattle.tree.specs.States.{state}
 use Rattle.tree.specs.declared.tree.Tree.{Tree}
 
-module _ {T I : Type 0} where
+module _ {T I : Type 0} {H : TagStore T} {K : Kind I} where
   -- the state of a tree with a shelf and a server that has done so much work
-  abbrev pub state_of : Tree T I → Shelf I → ℕ → State I
+  abbrev pub state_of : Tree T I H → Shelf I K → ℕ → State I
   state_of t s work =
-      state t.house (shape_of t.table) (weight_of t.table) t.queue.loads t.phase t.meter.0 t.turns (room s) (lanes s) work
-
-  -- the store holds, under each node's number, exactly its backlogged children with their start tags
-  abbrev pub InStep : (T → Held) → Tree T I → Type 0
-  InStep held t = Stocked (shape_of t.table) (held t.queue.store) t.queue.loads
+      state t.house (shape_of t.queue.table) (weight_of t.queue.table) t.queue.loads t.phase t.meter.0 t.turns (room s) (lanes s) work
 
 -- what the tree of a draft is opened with, beside a shelf of so many places and a server that has done so much work
 abbrev pub opening : Draft → ℕ → ℕ → Opening

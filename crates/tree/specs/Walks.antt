@@ -3,7 +3,7 @@
 use Rattle.std.specs.Prelude.{◌≡◌, ℕ, zero, suc, ◌+◌, ◌-◌, ◌<◌, max, Bool, true, false, cond, not, ◌&&◌, List, Some, None, Option, ◌==◌, nat_lt}
 use Rattle.base.specs.Charge.{charged}
 use Rattle.base.specs.declared.units.Parts.{Parts}
-use Rattle.tags.specs.Held.{Held, free, least_of}
+use Rattle.tags.specs.Held.{Held, least_of}
 use Rattle.rules.specs.Shape.{Shape, under, child}
 use Rattle.tree.specs.Loads.{load}
 use Rattle.tree.specs.declared.load.Load.{Load}
@@ -21,10 +21,6 @@ module _ (t : Shape) (ls : List Load) (on : ℕ → Bool) where
     finish = (load ls k).finish;
     vtime = (load ls k).vtime;
   }
-
-  -- a class that wakes is put into the store under its parent
-  abbrev pub woken_held : Held → Held
-  woken_held h k = cond (wakes k && free (h k)) (Some (t.parent k, (woken k).start)) (h k)
 
 -- each class of the path above c has the start tag of the one below it on the path for its virtual time; nothing else changes
 pub record Advanced (t : Shape) (c : ℕ) (ls ms : List Load) : Type 0 where

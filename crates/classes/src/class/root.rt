@@ -5,13 +5,13 @@ use crate::class::Class;
 use crate::name::Name;
 use base::weight::Weight;
 
-impl Class {
-    /// The root, with no children yet.
-    pub(crate) fn root() -> Class
-        ensures { Alone result }
-    {
+/// The root, with no children yet.
+impl Default for Class {
+    ghost is_default = { Alone };
+
+    fn default() -> Class {
         Class {
-            name: Name::ROOT,
+            name: Name::root(),
             parent: 0,
             weight: Weight::new(1).unwrap(),
             depth: 0,

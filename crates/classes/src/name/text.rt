@@ -1,64 +1,46 @@
 //! Making and reading names.
-ghost use Rattle.std.specs.Prelude.{◌≡◌, true, false, Some, MatchResult};
+ghost use Rattle.std.specs.Prelude.{◌≡◌, true, false, Some, MatchResult, codes};
 ghost use Rattle.base.specs.declared.refusal.Refusal.TheVariants.{BadName};
 ghost use Rattle.std.specs.Str.{bytes_eq};
 ghost use Rattle.classes.specs.Names.{text_of};
-ghost use Rattle.classes.specs.Words.{plain, is_name};
-ghost use Rattle.std.specs.Cmp.{on_equiv, on_per, partial_equiv_from_equiv};
-ghost use Rattle.std.specs.Cmp.Lexicographic.{nat_list_eq_equiv};
+ghost use Rattle.classes.specs.Words.{is_name};
 
-use crate::name::Name;
+use crate::name::{MAX_BYTES, Name};
+use arrayvec::ArrayString;
 use base::refusal::Refusal;
-use std::fmt;
-
-/// Whether a byte is a to z or 0 to 9.
-fn is_plain(byte: u8) -> bool
-    ensures { result ≡ plain byte }
-{
-    byte.is_ascii_lowercase() || byte.is_ascii_digit()
-}
-
-/// Whether the bytes may be a name.
-fn is_name(text: &[u8]) -> bool
-    ensures { result ≡ is_name text.now }
-{
-    if text.is_empty() || text.len() > 8 {
-        return false;
-    }
-    for byte in text {
-        if !is_plain(*byte) {
-            return false;
-        }
-    }
-    true
-}
+use base::words::is_word;
+use std::{fmt, str};
 
 impl Name {
     /// The name of these bytes, or the refusal of any other number or kind of bytes.
     pub fn new(text: &[u8]) -> Result<Name, Refusal>
         ensures { MatchResult result (λ n. (is_name text.now ≡ true) × (text_of n ≡ text.now)) (λ e. (is_name text.now ≡ false) × (e ≡ BadName)) }
     {
-        if !is_name(text) {
+        if !is_word::<MAX_BYTES>(text) {
             return Err(Refusal::BadName);
         }
-        let mut bytes = [0; 8];
-        bytes[0..text.len()].copy_from_slice(text);
-        Ok(Name {
-            bytes,
-            len: text.len(),
-        })
+        let mut name = ArrayString::new();
+        name.push_str(str::from_utf8(text).unwrap());
+        Ok(Name { text: name })
+    }
+
+    /// The name of class 0.
+    pub fn root() -> Name
+        ensures { text_of result ≡ codes "root" }
+    {
+        Name::new(b"root").unwrap()
     }
 
     pub fn as_bytes(&self) -> &[u8]
         ensures { result.now ≡ text_of self.now }
     {
-        &self.bytes[0..self.len]
+        self.text.as_bytes()
     }
 
     pub fn as_str(&self) -> &str
         ensures { result.now ≡ text_of self.now }
     {
-        std::str::from_utf8(self.as_bytes()).unwrap()
+        self.text.as_str()
     }
 
     /// Whether the name is these bytes.
@@ -67,20 +49,6 @@ impl Name {
     {
         self.as_bytes() == text
     }
-}
-
-impl PartialEq for Name {
-    ghost eq = { λ a b. bytes_eq (text_of a) (text_of b) };
-
-    ghost laws = { on_per text_of (partial_equiv_from_equiv nat_list_eq_equiv) };
-
-    fn eq(&self, other: &Name) -> bool {
-        self.as_bytes() == other.as_bytes()
-    }
-}
-
-impl Eq for Name {
-    ghost laws = { on_equiv text_of nat_list_eq_equiv };
 }
 
 impl fmt::Display for Name {

@@ -4,7 +4,7 @@ ghost use Rattle.rules.specs.Shape.{leaf};
 ghost use Rattle.std.specs.Option.{option_map};
 ghost use Rattle.classes.specs.Names.{text_of};
 ghost use Rattle.classes.specs.Shapes.{child_below};
-ghost use Rattle.classes.specs.Tables.{shape_of, class_of, name_by, node_above, sibling_below, named, Finds};
+ghost use Rattle.classes.specs.Tables.{class_count, shape_of, class_of, name_by, node_above, sibling_below, named, Finds};
 
 use crate::class::Class;
 use crate::name::Name;
@@ -13,49 +13,40 @@ use crate::table::ClassTable;
 impl ClassTable {
     /// How many classes there are.
     pub fn len(&self) -> usize
-        ensures { result ≡ self.now.len }
+        ensures { result ≡ class_count self.now }
     {
-        self.len
+        self.classes.len()
     }
 
     /// The class of that number.
     pub fn class(&self, number: u8) -> Option<Class>
         ensures { result ≡ class_of self.now number }
     {
-        if number as usize >= self.len {
-            return None;
-        }
-        Some(self.classes[number as usize])
+        self.classes.get(number as usize).copied()
     }
 
     /// The node above a class; the root has none.
     pub fn parent(&self, number: u8) -> Option<u8>
         ensures { result ≡ node_above self.now number }
     {
-        if number == 0 || number as usize >= self.len {
+        if number == 0 {
             return None;
         }
-        Some(self.classes[number as usize].parent)
+        Some(self.class(number)?.parent)
     }
 
     /// The child of a node that was added last.
     pub fn first_child(&self, number: u8) -> Option<u8>
-        ensures { result ≡ child_below (shape_of self.now) number self.now.len }
+        ensures { result ≡ child_below (shape_of self.now) number (class_count self.now) }
     {
-        if number as usize >= self.len {
-            return None;
-        }
-        self.classes[number as usize].first_child
+        self.class(number)?.first_child
     }
 
     /// The child of the same node that was added before this one.
     pub fn next_sibling(&self, number: u8) -> Option<u8>
         ensures { result ≡ sibling_below self.now number }
     {
-        if number as usize >= self.len {
-            return None;
-        }
-        self.classes[number as usize].next_sibling
+        self.class(number)?.next_sibling
     }
 
     /// Whether a class has no children.
@@ -69,10 +60,7 @@ impl ClassTable {
     pub fn name(&self, number: u8) -> Option<Name>
         ensures { option_map text_of result ≡ name_by self.now number }
     {
-        match self.class(number) {
-            Some(class) => Some(class.name),
-            None => None,
-        }
+        self.class(number).map(|class| class.name)
     }
 
     /// The class of that name.
@@ -80,11 +68,7 @@ impl ClassTable {
         ensures value { result ≡ named self.now name.now }
         ensures finds { Finds self.now name.now result }
     {
-        for number in 0..self.len {
-            if self.classes[number].name.is(name) {
-                return Some(number as u8);
-            }
-        }
-        None
+        let number = self.classes.iter().position(|class| class.name.is(name))?;
+        Some(number as u8)
     }
 }

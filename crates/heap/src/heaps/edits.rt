@@ -1,130 +1,118 @@
 //! Single steps on the heaps.
-ghost use Rattle.std.specs.Prelude.{◌≡◌, ℕ, ◌+◌, ◌-◌, ◌<◌, Some, None, ◌≢◌, nat_lt, slice_set};
-ghost use Rattle.heap.specs.Index.{pair_at, tag_or, exchanged};
-ghost use Rattle.heap.specs.Keys.{classes, count, keys, Reordered};
-ghost use Rattle.heap.specs.Slots.{spot};
+ghost use Rattle.std.specs.Prelude.{◌≡◌, ℕ, ◌+◌, ◌-◌, ◌<◌, ◌≤◌, Some, None, ◌≢◌, nat_lt, MatchOption};
+ghost use Rattle.tags.specs.Held.{with};
+ghost use Rattle.heap.specs.Index.{standing, tag_or, exchanged};
+ghost use Rattle.heap.specs.Keys.{pairs, count, classes, keys, Reordered};
 
 use crate::heaps::Heaps;
-use crate::slots::Slots;
+use crate::standings::{Standing, Standings};
+use arrayvec::ArrayVec;
 use base::units::Parts;
+use std::array;
+use tags::number::Number;
 
+// A place is a plain index of a heap's vector, since it is reckoned with. Group and place are passed apart, since along a path of a heap the place alone changes.
 impl Heaps {
     /// No class stands.
     pub(crate) fn new() -> Heaps
-        ensures pairs { (k : ℕ) → pair_at result.pairs k ≡ None }
+        ensures pairs { (k : ℕ) → pairs result k ≡ None }
         ensures lens { (g : ℕ) → count result g ≡ 0 }
     {
         Heaps {
-            pairs: [None; 64],
-            slots: Slots::new(),
-            lens: [0; 64],
+            standings: Standings::new(),
+            heaps: array::from_fn(|_| ArrayVec::new()),
         }
     }
 
-    /// The pair of a class.
-    pub(crate) fn pair(&self, class: u8) -> Option<(u8, Parts)>
-        requires { class < 64 }
-        ensures { result ≡ pair_at self.now.pairs class }
+    /// Where a class stands.
+    pub(crate) fn standing(&self, class: Number) -> Option<Standing>
+        ensures { result ≡ standing self.now.standings.rows class.value }
     {
-        self.pairs[class as usize]
+        self.standings.get(class)
     }
 
     /// The tag of a class, 0 where it does not stand.
-    pub(crate) fn tag(&self, class: u8) -> Parts
-        requires { class < 64 }
-        ensures { result ≡ tag_or (pair_at self.now.pairs class) }
+    pub(crate) fn tag(&self, class: Number) -> Parts
+        ensures { result ≡ tag_or (pairs self.now class.value) }
     {
-        match self.pairs[class as usize] {
-            Some((_, tag)) => tag,
-            None => Parts::ZERO,
-        }
+        self.standings
+            .get(class)
+            .map_or(Parts::ZERO, |standing| standing.tag)
     }
 
     /// How many classes stand in a group.
-    pub(crate) fn len(&self, group: u8) -> u8
-        requires { group < 64 }
-        ensures { result ≡ count self.now group }
+    pub(crate) fn len(&self, group: Number) -> usize
+        ensures value { result ≡ count self.now group.value }
+        ensures most { result ≤ 64 }
     {
-        self.lens[group as usize]
+        self.heaps[group.get() as usize].len()
     }
 
-    /// The place of a class in the heap of its group.
-    pub(crate) fn place_of(&self, class: u8) -> u8
-        requires { class < 64 }
-        ensures { result ≡ spot self.now.slots.places class }
+    /// The class at the root of a group's heap, if one stands there.
+    pub(crate) fn first(&self, group: Number) -> Option<Number>
+        ensures { MatchOption result (count self.now group.value ≡ 0) (λ class. (0 < count self.now group.value) × (class.value ≡ classes self.now group.value 0)) }
     {
-        self.slots.place_of(class)
+        self.heaps[group.get() as usize].first().copied()
     }
 
     /// The class at a place of a group's heap.
-    pub(crate) fn class_at(&self, group: u8, place: u8) -> u8
-        requires { (group < 64) × (place < 64) }
-        ensures value { result ≡ classes self.now group place }
-        ensures known { result < 64 }
+    pub(crate) fn class_at(&self, group: Number, place: usize) -> Number
+        requires { place < count self.now group.value }
+        ensures { result.value ≡ classes self.now group.value place }
     {
-        self.slots.class_at(group, place)
+        self.heaps[group.get() as usize][place]
     }
 
     /// The class at place i of a group's heap comes before the one at place j.
-    pub(crate) fn before(&self, group: u8, i: u8, j: u8) -> bool
-        requires { (group < 64) × (i < 64) × (j < 64) }
-        ensures { result ≡ nat_lt (keys self.now group i) (keys self.now group j) }
+    pub(crate) fn before(&self, group: Number, i: usize, j: usize) -> bool
+        requires { (i < count self.now group.value) × (j < count self.now group.value) }
+        ensures { result ≡ nat_lt (keys self.now group.value i) (keys self.now group.value j) }
     {
-        let a = self.slots.class_at(group, i);
-        let b = self.slots.class_at(group, j);
+        let a = self.class_at(group, i);
+        let b = self.class_at(group, j);
         (self.tag(a), a) < (self.tag(b), b)
     }
 
     /// Exchanges the classes at two places of a group's heap.
-    pub(crate) fn exchange(&mut self, group: u8, i: u8, j: u8)
-        requires { (group < 64) × (i < count self.old group) × (j < count self.old group) }
-        ensures classes { (k : ℕ) → classes self.new group k ≡ exchanged (classes self.old group) i j k }
-        ensures keys { (k : ℕ) → keys self.new group k ≡ exchanged (keys self.old group) i j k }
-        ensures reordered { Reordered self.old self.new group }
+    pub(crate) fn exchange(&mut self, group: Number, i: usize, j: usize)
+        requires { (i < count self.old group.value) × (j < count self.old group.value) }
+        ensures classes { (k : ℕ) → classes self.new group.value k ≡ exchanged (classes self.old group.value) i j k }
+        ensures keys { (k : ℕ) → keys self.new group.value k ≡ exchanged (keys self.old group.value) i j k }
+        ensures reordered { Reordered self.old self.new group.value }
     {
-        let a = self.slots.class_at(group, i);
-        let b = self.slots.class_at(group, j);
-        self.slots.write(group, i, b);
-        self.slots.write(group, j, a);
+        let heap = &mut self.heaps[group.get() as usize];
+        heap.swap(i, j);
+        self.standings.move_to(heap[i], i);
+        self.standings.move_to(heap[j], j);
     }
 
     /// Puts a class that does not stand at the end of a group's heap.
-    pub(crate) fn append(&mut self, group: u8, class: u8, tag: Parts)
-        requires known { (group < 64) × (class < 64) }
-        requires free { pair_at self.old.pairs class ≡ None }
-        ensures pairs { self.new.pairs ≡ slice_set self.old.pairs class (Some (group, tag)) }
-        ensures lens { self.new.lens ≡ slice_set self.old.lens group (count self.old group + 1) }
+    pub(crate) fn append(&mut self, group: Number, class: Number, tag: Parts)
+        requires { pairs self.old class.value ≡ None }
+        ensures pairs { pairs self.new ≡ with (pairs self.old) class.value (Some (group.value, tag)) }
+        ensures len { count self.new group.value ≡ count self.old group.value + 1 }
+        ensures other_lens { (g : ℕ) → (g ≢ group.value) → count self.new g ≡ count self.old g }
         ensures keys { (g i : ℕ) → i < count self.old g → keys self.new g i ≡ keys self.old g i }
     {
-        let place = self.lens[group as usize];
-        self.slots.write(group, place, class);
-        self.pairs[class as usize] = Some((group, tag));
-        self.lens[group as usize] = place + 1;
-    }
-
-    /// Removes the last class of a group's heap, with its pair.
-    pub(crate) fn drop_last(&mut self, group: u8)
-        requires { (group < 64) × (0 < count self.old group) }
-        ensures pairs { self.new.pairs ≡ slice_set self.old.pairs (classes self.old group (count self.old group - 1)) None }
-        ensures lens { self.new.lens ≡ slice_set self.old.lens group (count self.old group - 1) }
-        ensures keys { (g i : ℕ) → i < count self.new g → keys self.new g i ≡ keys self.old g i }
-    {
-        let last = self.lens[group as usize] - 1;
-        let class = self.slots.class_at(group, last);
-        self.pairs[class as usize] = None;
-        self.lens[group as usize] = last;
+        let place = self.len(group);
+        self.heaps[group.get() as usize].push(class);
+        self.standings
+            .set(class, Some(Standing { group, tag, place }));
     }
 
     /// Removes the class at a place of a group's heap, with its pair. The last class of the heap goes to its place.
-    pub(crate) fn remove_at(&mut self, group: u8, place: u8)
-        requires { (group < 64) × (place < count self.old group) }
-        ensures pairs { self.new.pairs ≡ slice_set self.old.pairs (classes self.old group place) None }
-        ensures lens { self.new.lens ≡ slice_set self.old.lens group (count self.old group - 1) }
-        ensures keys { (i : ℕ) → i < count self.new group → keys self.new group i ≡ exchanged (keys self.old group) place (count self.new group) i }
-        ensures others { (g i : ℕ) → (g ≢ group) → i < count self.old g → keys self.new g i ≡ keys self.old g i }
+    pub(crate) fn remove_at(&mut self, group: Number, place: usize)
+        requires { place < count self.old group.value }
+        ensures pairs { pairs self.new ≡ with (pairs self.old) (classes self.old group.value place) None }
+        ensures len { count self.new group.value + 1 ≡ count self.old group.value }
+        ensures other_lens { (g : ℕ) → (g ≢ group.value) → count self.new g ≡ count self.old g }
+        ensures keys { (i : ℕ) → i < count self.new group.value → keys self.new group.value i ≡ exchanged (keys self.old group.value) place (count self.new group.value) i }
+        ensures others { (g i : ℕ) → (g ≢ group.value) → i < count self.old g → keys self.new g i ≡ keys self.old g i }
     {
-        let last = self.len(group) - 1;
-        self.exchange(group, place, last);
-        self.drop_last(group);
+        let heap = &mut self.heaps[group.get() as usize];
+        let last = heap[heap.len() - 1];
+        self.standings.move_to(last, place);
+        let class = heap.swap_remove(place);
+        self.standings.set(class, None);
     }
 }

@@ -5,6 +5,7 @@ ghost use Rattle.links.specs.Listed.{listed};
 
 use crate::outage::Outage;
 use crate::outages::Outages;
+use arrayvec::ArrayVec;
 use base::refusal::Refusal;
 
 impl Outages {
@@ -13,29 +14,15 @@ impl Outages {
         ensures { listed result ≡ [] }
     {
         Outages {
-            table: [Outage {
-                offset: 0,
-                length: 0,
-            }; 16],
-            used: 0,
+            list: ArrayVec::new(),
         }
-    }
-
-    /// The outages, the earliest first.
-    fn as_slice(&self) -> &[Outage]
-        ensures { result.now ≡ listed self.now }
-    {
-        &self.table[..self.used]
     }
 
     /// Where the last outage ends, 0 before the first.
     fn last_end(&self) -> u32
         ensures { result ≡ last_end 0 (listed self.now) }
     {
-        match self.as_slice().last() {
-            Some(last) => last.offset + last.length,
-            None => 0,
-        }
+        self.list.last().map_or(0, |last| last.offset + last.length)
     }
 
     /// Whether the outage may stand behind those that stand: it is not empty, begins at the last one's end or later, ends
@@ -43,13 +30,14 @@ impl Outages {
     fn takes(&self, outage: Outage) -> bool
         ensures { result ≡ fits (listed self.now) outage }
     {
-        self.used < 16
+        !self.list.is_full()
             && self.last_end() <= outage.offset
             && outage.length > 0
             && outage.offset.checked_add(outage.length).is_some()
     }
 
     /// Adds the outage behind those that stand, or refuses it.
+    #[tactic(auto, using(crate::proofs::Order::one_more))]
     pub fn add(&mut self, outage: Outage) -> Result<(), Refusal>
         ensures { MatchResult result
             (λ _. (fits (listed self.old) outage ≡ true) × (listed self.new ≡ listed self.old ++ outage ∷ []))
@@ -58,8 +46,7 @@ impl Outages {
         if !self.takes(outage) {
             return Err(Refusal::BadOutage);
         }
-        self.table[self.used] = outage;
-        self.used += 1;
+        self.list.push(outage);
         Ok(())
     }
 
@@ -67,11 +54,6 @@ impl Outages {
     pub(crate) fn cover(&self, count: u32) -> bool
         ensures { result ≡ covered (listed self.now) count }
     {
-        for outage in self.as_slice() {
-            if outage.covers(count) {
-                return true;
-            }
-        }
-        false
+        self.list.iter().any(|outage| outage.covers(count))
     }
 }

@@ -1,6 +1,6 @@
 //! Charging a leaf and the classes above it.
 ghost use Rattle.std.specs.Prelude.{◌≡◌, ℕ, ◌<◌, if◌then◌else◌, nat_eq};
-ghost use Rattle.classes.specs.Tables.{shape_of};
+ghost use Rattle.classes.specs.Tables.{class_count, shape_of};
 ghost use Rattle.rules.specs.Shape.{under};
 ghost use Rattle.play.specs.Charges.{charged_at, more};
 
@@ -32,7 +32,7 @@ impl Charges {
 
     /// Charges the work of a turn to its leaf and to each class above it.
     pub(crate) fn add<T: TagStore, I: Item>(&mut self, tree: &Tree<T, I>, leaf: u8, done: Units)
-        ensures { leaf < tree.now.table.len → (k : ℕ) → charged_at self.new k ≡ (if under (shape_of tree.now.table) k leaf then more (charged_at self.old k) done.0 else charged_at self.old k) }
+        ensures { leaf < (class_count tree.now.queue.table) → (k : ℕ) → charged_at self.new k ≡ (if under (shape_of tree.now.queue.table) k leaf then more (charged_at self.old k) done.0 else charged_at self.old k) }
     {
         let mut next = Some(leaf);
         while let Some(class) = next {

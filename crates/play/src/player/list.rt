@@ -24,17 +24,17 @@ pub(crate) fn list<I: OfCost, S: Server + Drop>(
 ) -> Result<String, AllocError>
     ensures { IfOk result (λ out. Lists I.Item S.Server I.OfCost.item (min (length places.old) 256) draft link events.now (string_bytes out)) }
 {
-    let mut shelf = Shelf::new(places);
     let tree: Tree<HeapStore, I> = Tree::open(draft);
     let mut player = Player {
         tree,
+        shelf: Shelf::new(places),
         link,
         held: None,
         charges: Charges::new(),
     };
     let mut listing = Listing::new(heap);
-    player.play(&mut shelf, &mut listing, events);
-    player.finish(&shelf, &mut listing);
+    player.play(&mut listing, events);
+    player.finish(&mut listing);
     player.tell_charges(&mut listing);
     let Player { held, .. } = player;
     match held {

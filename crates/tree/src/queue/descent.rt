@@ -2,7 +2,6 @@
 ghost use Rattle.std.specs.Prelude.{◌≡◌, ℕ, ◌<◌, IfSome};
 ghost use Rattle.classes.specs.Tables.{shape_of};
 ghost use Rattle.rules.specs.Shape.{leaf};
-ghost use Rattle.tags.specs.Held.{nothing};
 ghost use Rattle.tree.specs.Loads.{load, no_load};
 ghost use Rattle.tree.specs.Walks.{lowest, pick};
 
@@ -16,31 +15,27 @@ const DEEPEST: u8 = 7;
 
 impl<T: TagStore> Queue<T> {
     /// Nothing waits, and every tag is 0.
-    pub(crate) fn new() -> Queue<T>
+    pub(crate) fn new(table: ClassTable) -> Queue<T>
+        ensures table { result.table ≡ table }
         ensures loads { (k : ℕ) → load result.loads k ≡ no_load }
-        ensures store { T.TagStore.held result.store ≡ nothing }
     {
         Queue {
+            table,
             loads: [Load::NONE; 64],
             store: T::empty(),
         }
     }
 
     /// The leaf to serve next: from the root on, the child that the store has for least, as far as it leads. None where no item waits.
-    pub(crate) fn pick(&self, table: &ClassTable) -> Option<u8>
-        ensures value { result ≡ pick (T.TagStore.held self.now.store) (leaf (shape_of table.now) 0) (load self.now.loads 0).backlog }
+    pub(crate) fn pick(&self) -> Option<u8>
+        ensures value { result ≡ pick (T.TagStore.held self.now.store) (leaf (shape_of self.now.table) 0) (load self.now.loads 0).backlog }
         ensures known { IfSome result (λ k. k < 64) }
     {
-        if table.is_leaf(0) {
-            if self.loads[0].backlog == 0 {
-                return None;
-            }
-            return Some(0);
+        if self.table.is_leaf(0) {
+            return (self.loads[0].backlog > 0).then_some(0);
         }
-        match self.store.least(0) {
-            Some((child, _)) => Some(self.descend(child)),
-            None => None,
-        }
+        let (child, _) = self.store.least(0)?;
+        Some(self.descend(child))
     }
 
     /// As far down from a node as the store leads.
@@ -51,10 +46,10 @@ impl<T: TagStore> Queue<T> {
     {
         let mut node = from;
         for _ in 0..DEEPEST {
-            match self.store.least(node) {
-                Some((child, _)) => node = child,
-                None => return node,
-            }
+            let Some((child, _)) = self.store.least(node) else {
+                return node;
+            };
+            node = child;
         }
         node
     }

@@ -11,9 +11,9 @@ impl<T: TagStore> Queue<T> {
     pub(crate) fn load(&self, class: u8) -> Load
         ensures { result ≡ load self.now.loads class }
     {
-        if class >= 64 {
-            return Load::NONE;
-        }
-        self.loads[class as usize]
+        self.loads
+            .get(class as usize)
+            .copied()
+            .unwrap_or(Load::NONE)
     }
 }

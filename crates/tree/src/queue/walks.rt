@@ -1,40 +1,39 @@
 //! The walks from a leaf up to the root that begin a wait and a turn, one class at a time.
 ghost use Rattle.std.specs.Prelude.{◌≡◌, ℕ, ◌<◌, nat_eq};
-ghost use Rattle.classes.specs.Tables.{shape_of, node_above};
+ghost use Rattle.classes.specs.Tables.{class_count, shape_of, node_above};
 ghost use Rattle.rules.specs.Shape.{under};
 ghost use Rattle.tree.specs.Loads.{load};
-ghost use Rattle.tree.specs.Walks.{Advanced, woken, woken_held};
+ghost use Rattle.tree.specs.Walks.{Advanced, woken};
 
 use crate::load::Load;
 use crate::queue::Queue;
-use classes::table::ClassTable;
 use tags::TagStore;
 
 impl<T: TagStore> Queue<T> {
     /// Counts one more item in the lane of a leaf, and wakes what was not backlogged of it and the classes above it.
-    pub(crate) fn wake(&mut self, table: &ClassTable, leaf: u8)
-        requires known { leaf < table.now.len }
+    pub(crate) fn wake(&mut self, leaf: u8)
+        requires known { leaf < class_count self.old.table }
         requires room { (k : ℕ) → (load self.old.loads k).backlog < 4294967295 }
-        ensures loads { (k : ℕ) → load self.new.loads k ≡ woken (shape_of table.now) self.old.loads (λ j. under (shape_of table.now) j leaf) k }
-        ensures held { (k : ℕ) → T.TagStore.held self.new.store k ≡ woken_held (shape_of table.now) self.old.loads (λ j. under (shape_of table.now) j leaf) (T.TagStore.held self.old.store) k }
+        ensures table { self.new.table ≡ self.old.table }
+        ensures loads { (k : ℕ) → load self.new.loads k ≡ woken (shape_of self.old.table) self.old.loads (λ j. under (shape_of self.old.table) j leaf) k }
     {
         let mut next = Some(leaf);
         while let Some(class) = next {
-            next = self.wake_class(table, class);
+            next = self.wake_class(class);
         }
     }
 
     /// The same for one class; answers the node above it.
-    fn wake_class(&mut self, table: &ClassTable, class: u8) -> Option<u8>
-        requires known { class < table.now.len }
+    fn wake_class(&mut self, class: u8) -> Option<u8>
+        requires known { class < class_count self.old.table }
         requires room { (load self.old.loads class).backlog < 4294967295 }
-        ensures value { result ≡ node_above table.now class }
-        ensures loads { (k : ℕ) → load self.new.loads k ≡ woken (shape_of table.now) self.old.loads (nat_eq class) k }
-        ensures held { (k : ℕ) → T.TagStore.held self.new.store k ≡ woken_held (shape_of table.now) self.old.loads (nat_eq class) (T.TagStore.held self.old.store) k }
+        ensures value { result ≡ node_above self.old.table class }
+        ensures table { self.new.table ≡ self.old.table }
+        ensures loads { (k : ℕ) → load self.new.loads k ≡ woken (shape_of self.old.table) self.old.loads (nat_eq class) k }
     {
         let load = self.loads[class as usize];
         let backlog = load.backlog + 1;
-        let above = table.parent(class);
+        let above = self.table.parent(class);
         let Some(node) = above else {
             self.loads[class as usize] = Load { backlog, ..load };
             return None;
@@ -54,13 +53,13 @@ impl<T: TagStore> Queue<T> {
     }
 
     /// A turn of the leaf begins: each node above it takes the start tag of the child on the way for its virtual time.
-    pub(crate) fn advance(&mut self, table: &ClassTable, leaf: u8)
-        requires known { leaf < table.now.len }
-        ensures loads { Advanced (shape_of table.now) leaf self.old.loads self.new.loads }
-        ensures store { self.new.store ≡ self.old.store }
+    pub(crate) fn advance(&mut self, leaf: u8)
+        requires known { leaf < class_count self.old.table }
+        ensures table { self.new.table ≡ self.old.table }
+        ensures loads { Advanced (shape_of self.old.table) leaf self.old.loads self.new.loads }
     {
         let mut class = leaf;
-        while let Some(node) = table.parent(class) {
+        while let Some(node) = self.table.parent(class) {
             let start = self.loads[class as usize].start;
             let load = self.loads[node as usize];
             self.loads[node as usize] = Load {

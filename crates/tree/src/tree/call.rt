@@ -4,7 +4,7 @@ ghost use Rattle.rules.specs.Laws.{Lasts};
 ghost use Rattle.rules.specs.Rules.{Step};
 ghost use Rattle.shelf.specs.Lanes.{Lent};
 ghost use Rattle.tree.specs.Calls.{call_of, taken, answer_of, Unspent, Draws};
-ghost use Rattle.tree.specs.Trees.{state_of, InStep};
+ghost use Rattle.tree.specs.Trees.{state_of};
 
 use crate::phase::Phase;
 use crate::tree::{Dispatch, Grant, Tree};
@@ -40,40 +40,39 @@ impl<T: TagStore, I: Item> Tree<T, I> {
         shelf: &mut Shelf<'_, I>,
         server: &mut S,
     ) -> Result<Answer, (Refusal, Option<Grant>)>
-        ensures kept { InStep T.TagStore.held self.old → InStep T.TagStore.held self.new }
-        ensures steps { InStep T.TagStore.held self.old → Step I.Item (state_of self.old shelf.old (S.Server.work server.old)) (call_of call.entry) (answer_of result) (state_of self.new shelf.new (S.Server.work server.new)) }
-        ensures lawful { InStep T.TagStore.held self.old → Lasts I.Item (state_of self.old shelf.old (S.Server.work server.old)) (call_of call.entry) (answer_of result) (state_of self.new shelf.new (S.Server.work server.new)) }
-        ensures table { self.new.table ≡ self.old.table }
+        ensures steps { Step I.Item (state_of self.old shelf.old (S.Server.work server.old)) (call_of call.entry) (answer_of result) (state_of self.new shelf.new (S.Server.work server.new)) }
+        ensures lawful { Lasts I.Item (state_of self.old shelf.old (S.Server.work server.old)) (call_of call.entry) (answer_of result) (state_of self.new shelf.new (S.Server.work server.new)) }
+        ensures table { self.new.queue.table ≡ self.old.queue.table }
         ensures drew { Draws S.Server.draws self.old.phase call.entry result server.old server.new }
         ensures grant { Unspent self.old result }
         ensures lender { Lent shelf.old shelf.new }
         ensures refused { IfErr result (λ e. (e.1 ≡ taken call.entry) × (self.new ≡ self.old) × (shelf.new ≡ shelf.old)) }
     {
         match (self.phase, call) {
-            (_, Call::Submit { class, item }) => match self.submit(shelf, class, item) {
-                Ok(()) => Ok(Answer::Accepted),
-                Err(refusal) => Err((refusal, None)),
-            },
-            (Phase::Free, Call::Dispatch) => match self.dispatch(shelf) {
-                Ok(dispatch) => Ok(Answer::Granted(dispatch)),
-                Err(refusal) => Err((refusal, None)),
-            },
+            (_, Call::Submit { class, item }) => self
+                .submit(shelf, class, item)
+                .map(|()| Answer::Accepted)
+                .map_err(|refusal| (refusal, None)),
+            (Phase::Free, Call::Dispatch) => self
+                .dispatch(shelf)
+                .map(Answer::Granted)
+                .map_err(|refusal| (refusal, None)),
             (Phase::Open { .. }, Call::Dispatch) => Err((Refusal::TurnOpen, None)),
             (Phase::Free, Call::Pulse(_)) => Err((Refusal::WrongGrant, None)),
-            (Phase::Open { .. }, Call::Pulse(grant)) => match self.pulse(grant, server) {
-                Ok(work) => Ok(Answer::Worked(work)),
-                Err(refusal) => Err((refusal, None)),
-            },
+            (Phase::Open { .. }, Call::Pulse(grant)) => self
+                .pulse(grant, server)
+                .map(Answer::Worked)
+                .map_err(|refusal| (refusal, None)),
             (Phase::Free, Call::End(grant)) => Err((Refusal::WrongGrant, Some(grant))),
-            (Phase::Open { .. }, Call::End(grant)) => match self.end(grant, shelf) {
-                Ok(charge) => Ok(Answer::Closed(charge)),
-                Err((refusal, grant)) => Err((refusal, Some(grant))),
-            },
+            (Phase::Open { .. }, Call::End(grant)) => self
+                .end(grant, shelf)
+                .map(Answer::Closed)
+                .map_err(|(refusal, grant)| (refusal, Some(grant))),
             (Phase::Free, Call::GiveUp(grant)) => Err((Refusal::WrongGrant, Some(grant))),
-            (Phase::Open { .. }, Call::GiveUp(grant)) => match self.give_up(grant, shelf) {
-                Ok(charge) => Ok(Answer::Closed(charge)),
-                Err((refusal, grant)) => Err((refusal, Some(grant))),
-            },
+            (Phase::Open { .. }, Call::GiveUp(grant)) => self
+                .give_up(grant, shelf)
+                .map(Answer::Closed)
+                .map_err(|(refusal, grant)| (refusal, Some(grant))),
         }
     }
 }

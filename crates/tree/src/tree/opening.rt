@@ -3,7 +3,7 @@ ghost use Rattle.std.specs.Prelude.{◌≡◌, ℕ, []};
 ghost use Rattle.rules.specs.State.{Valid, fresh};
 ghost use Rattle.shelf.specs.Lanes.{lanes, room};
 ghost use Rattle.shelf.specs.declared.shelf.Shelf.{Shelf};
-ghost use Rattle.tree.specs.Trees.{state_of, InStep, opening};
+ghost use Rattle.tree.specs.Trees.{state_of, opening};
 
 use crate::phase::Phase;
 use crate::queue::Queue;
@@ -17,17 +17,15 @@ use tags::TagStore;
 impl<T: TagStore, I: Item> Tree<T, I> {
     /// Opens a draft, and uses it up. The tree has an empty store of its own; with an empty shelf it stands before any call.
     pub fn open(draft: Draft) -> Tree<T, I>
-        ensures kept { InStep T.TagStore.held result }
         ensures valid { (places w : ℕ) → Valid (opening draft places w) }
-        ensures opened { (sh : Shelf I) (w : ℕ) → ((k : ℕ) → lanes sh k ≡ []) → state_of result sh w ≡ fresh (opening draft (room sh) w) }
+        ensures opened { (sh : Shelf I I.Item) (w : ℕ) → ((k : ℕ) → lanes sh k ≡ []) → state_of result sh w ≡ fresh (opening draft (room sh) w) }
         ensures house { result.house ≡ draft.house }
-        ensures table { result.table ≡ draft.table }
+        ensures table { result.queue.table ≡ draft.table }
     {
         let (house, table) = draft.into_parts();
         Tree {
             house,
-            table,
-            queue: Queue::new(),
+            queue: Queue::new(table),
             phase: Phase::Free,
             meter: Units::ZERO,
             turns: 0,

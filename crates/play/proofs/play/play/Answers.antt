@@ -14,17 +14,18 @@ made_so P Q (Err e) f p = tt
 
 pub returns-in-Quantum : goal.returns-in-Quantum
 returns-in-Quantum c =
-    let t = c.in-Ok.trace in
+    let t = c.in-Ok.field-0 in
     made_so (Lists QuantumItem link (λ n. record { task = 0; time = n }) 256 t.draft t.link c.as_slice-events.result.now) (Prints c.args.text.now) c.list.result
     (λ out l. quanta t out c.in-Ok.ensures c.in-Quantum.is (subst (λ es. Lists QuantumItem link (λ n. record { task = 0; time = n }) 256 t.draft t.link es out) c.as_slice-events.ensures.value l)) c.list.ensures
 
 pub returns-in-Ok : goal.returns-in-Ok
 returns-in-Ok c =
-    let t = c.in-Ok.trace in
+    let t = c.in-Ok.field-0 in
     made_so (Lists BlockItem link (λ n. record { first = 0; length = n }) 256 t.draft t.link c.as_slice-events.result.now) (Prints c.args.text.now) c.list-in-Block.result
     (λ out l. blocks t out c.in-Ok.ensures c.in-Block.is (subst (λ es. Lists BlockItem link (λ n. record { first = 0; length = n }) 256 t.draft t.link es out) c.as_slice-events.ensures.value l)) c.list-in-Block.ensures
 
-pub returns-in-Fault : goal.returns-in-Fault
-returns-in-Fault c =
-    let first = subst (λ e. Judged c.args.text.now (Err e)) c.in-Fault.is c.in-Err.ensures in
-    made_so _ (Prints c.args.text.now) c.format.result (λ out e. subst (Prints c.args.text.now) (sym e) (faulty c.in-Fault.fault first)) c.format.ensures.ok
+pub returns-in-Err-Fault : goal.returns-in-Err-Fault
+returns-in-Err-Fault c =
+    let at = c.in-Err-Fault in
+    let first = subst (λ e. Judged c.args.text.now (Err e)) at.field-0-is at.ensures in
+    made_so _ (Prints c.args.text.now) c.format.result (λ out e. subst (Prints c.args.text.now) (sym e) (faulty at.fault first)) c.format.ensures.ok

@@ -7,17 +7,10 @@ use Rattle.sharing.proofs.Turns.{ends}
 use Rattle.sharing.proofs.turn.close.Goals as goal
 
 pub returns-in-Ok : goal.returns-in-Ok
-returns-in-Ok g c =
-    let e = c.in-Ok.ensures in
-    record { kept = e.kept; closed = λ w. ends g.I.Item (state_of c.args.tree.now c.args.shelf.now w) (state_of c.end.new.self c.end.new.shelf w) (grant_of c.args.grant) _ (e.steps w) }
+returns-in-Ok g c = λ w. ends g.I.Item (state_of c.args.tree.now c.args.shelf.now w) (state_of c.end.new.self c.end.new.shelf w) (grant_of c.args.grant) _ (c.in-Ok.ensures.steps w)
 
 pub returns-in-Err : goal.returns-in-Err
-returns-in-Err g c =
+returns-in-Err g c = λ w.
     let e = c.in-Err.ensures in
-    let r = c.give_up.ensures in
     let u = c.end.new.shelf in
-    record {
-      kept = λ ins. r.kept (e.kept ins);
-      closed = λ w. subst (λ s. Closed s c.give_up.result.0 (state_of c.give_up.new.tree u w))
-          (ap (λ t. state_of t u w) e.refused.1 ∙ ap (λ s. state_of c.args.tree.now s w) e.refused.2) (r.closed w);
-    }
+    subst (λ s. Closed s c.give_up.result.0 (state_of c.give_up.new.tree u w)) (ap (λ t. state_of t u w) e.refused.1 ∙ ap (λ s. state_of c.args.tree.now s w) e.refused.2) (c.give_up.ensures w)

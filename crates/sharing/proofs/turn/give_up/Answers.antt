@@ -9,6 +9,4 @@ unreachable-requires g c =
     never_refused g.I.Item (state_of c.args.tree.now c.args.shelf.now 0) (state_of c.give_up.new.self c.args.shelf.now 0) (grant_of c.args.grant) _ c.requires (c.in-Err.ensures.steps 0)
 
 pub returns : goal.returns
-returns g c =
-    let e = c.in-Ok.ensures in
-    record { kept = e.kept; closed = λ w. gives_up g.I.Item (state_of c.args.tree.now c.args.shelf.now w) (state_of c.give_up.new.self c.args.shelf.now w) (grant_of c.args.grant) _ (e.steps w) }
+returns g c = λ w. gives_up g.I.Item (state_of c.args.tree.now c.args.shelf.now w) (state_of c.give_up.new.self c.args.shelf.now w) (grant_of c.args.grant) _ (c.in-Ok.ensures.steps w)

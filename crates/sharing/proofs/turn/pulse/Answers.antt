@@ -5,10 +5,6 @@ use Rattle.sharing.proofs.Turns.{keeps}
 use Rattle.sharing.proofs.turn.pulse.Goals as goal
 
 pub returns-in-Ok : goal.returns-in-Ok
-returns-in-Ok g c =
-    let e = c.in-Ok.ensures in
+returns-in-Ok g c = λ sh r.
     let grant = grant_of c.args.grant.now in
-    record {
-      kept = e.kept;
-      serving = λ sh r. keeps g.I.Item (state_of c.args.tree.now sh (g.S.Server.work c.args.server.now)) grant grant r _ (state_of c.pulse.new.self sh (g.S.Server.work c.pulse.new.server)) (e.steps sh);
-    }
+    keeps g.I.Item (state_of c.args.tree.now sh (g.S.Server.work c.args.server.now)) grant grant r _ (state_of c.pulse.new.self sh (g.S.Server.work c.pulse.new.server)) (c.in-Ok.ensures.steps sh)

@@ -8,37 +8,23 @@ use Rattle.sharing.proofs.turn.run.Goals as goal
 pub give_up-requires : goal.give_up-requires
 give_up-requires g c =
     let sh = c.args.shelf.now in
-    let w = g.S.Server.work c.args.server.now in
     let grant = grant_of c.args.grant in
-    again g.I.Item c.pulses-left.new.tree sh grant (g.S.Server.work c.pulses-left.new.server) 0 (c.pulses-left.ensures.serving sh (again g.I.Item c.args.tree.now sh grant 0 w c.requires)).0
+    again g.I.Item c.pulses-left.new.tree sh grant (g.S.Server.work c.pulses-left.new.server) 0 (c.pulses-left.ensures sh (again g.I.Item c.args.tree.now sh grant 0 (g.S.Server.work c.args.server.now) c.requires)).0
 
 pub close-requires : goal.close-requires
 close-requires g c =
     let sh = c.args.shelf.now in
-    let w = g.S.Server.work c.args.server.now in
     let grant = grant_of c.args.grant in
-    again g.I.Item c.pulses-left.new.tree sh grant (g.S.Server.work c.pulses-left.new.server) 0 (c.pulses-left.ensures.serving sh (again g.I.Item c.args.tree.now sh grant 0 w c.requires)).0
+    again g.I.Item c.pulses-left.new.tree sh grant (g.S.Server.work c.pulses-left.new.server) 0 (c.pulses-left.ensures sh (again g.I.Item c.args.tree.now sh grant 0 (g.S.Server.work c.args.server.now) c.requires)).0
 
 pub returns-then-left-gt0 : goal.returns-then-left-gt0
-returns-then-left-gt0 g c =
+returns-then-left-gt0 g c = λ b since.
     let sh = c.args.shelf.now in
-    let w = g.S.Server.work c.args.server.now in
     let v = g.S.Server.work c.pulses-left.new.server in
-    let p = c.pulses-left.ensures in
-    let e = c.give_up.ensures in
-    record {
-      kept = λ ins. e.kept (p.kept ins);
-      served = λ b open-since. whole b (state_of c.pulses-left.new.tree sh v) (state_of c.give_up.new.tree sh v) _ ((p.serving sh (again g.I.Item c.args.tree.now sh (grant_of c.args.grant) 0 w c.requires)).1 b open-since) (e.closed v) refl;
-    }
+    whole b (state_of c.pulses-left.new.tree sh v) (state_of c.give_up.new.tree sh v) _ ((c.pulses-left.ensures sh (again g.I.Item c.args.tree.now sh (grant_of c.args.grant) 0 (g.S.Server.work c.args.server.now) c.requires)).1 b since) (c.give_up.ensures v) refl
 
 pub returns : goal.returns
-returns g c =
+returns g c = λ b since.
     let sh = c.args.shelf.now in
-    let w = g.S.Server.work c.args.server.now in
     let v = g.S.Server.work c.pulses-left.new.server in
-    let p = c.pulses-left.ensures in
-    let e = c.close.ensures in
-    record {
-      kept = λ ins. e.kept (p.kept ins);
-      served = λ b open-since. whole b (state_of c.pulses-left.new.tree sh v) (state_of c.close.new.tree c.close.new.shelf v) _ ((p.serving sh (again g.I.Item c.args.tree.now sh (grant_of c.args.grant) 0 w c.requires)).1 b open-since) (e.closed v) refl;
-    }
+    whole b (state_of c.pulses-left.new.tree sh v) (state_of c.close.new.tree c.close.new.shelf v) _ ((c.pulses-left.ensures sh (again g.I.Item c.args.tree.now sh (grant_of c.args.grant) 0 (g.S.Server.work c.args.server.now) c.requires)).1 b since) (c.close.ensures v) refl

@@ -1,13 +1,12 @@
-use Rattle.std.proofs.Common.{arith}
-use Rattle.std.proofs.ByRecursion.{All-more}
-use Rattle.text.proofs.Cuts.{found, whole}
+use Rattle.std.proofs.Common.{◌≡◌, ◌==◌, sym, ◌∙◌, rules, tests}
+use Rattle.std.specs.List.{position}
+use Rattle.std.proofs.lemmas.Iterator.{YieldsList-from_slice}
+use Rattle.std.proofs.lemmas.Iterator.Search.{position_from_yields_List}
+use Rattle.text.proofs.Cuts.{found}
 use Rattle.text.proofs.word.cut.Goals as goal
 
-pub returns-then-byte-at : goal.returns-then-byte-at
-returns-then-byte-at c = found c.args.bytes.now _ _ (omega arith) c.if-byte-at.true c.loop-i.invariant
-
-pub loop-i-preserved : goal.loop-i-preserved
-loop-i-preserved c = All-more _ c.args.bytes.now _ 0 (omega arith) c.loop-i.invariant c.if-byte-at.false
-
 pub returns : goal.returns
-returns c = whole _ c.args.bytes.now _ (omega arith) c.loop-i.invariant
+returns c =
+    let first : c.position.result ≡ position (λ b. b == c.args.at) c.args.bytes.now =
+    position_from_yields_List (λ b. b == c.args.at) _ _ _ c.position.ensures.ran (YieldsList-from_slice c.args.bytes.now cc) (λ x b q k. search (rules, tests)) in
+    found c.args.bytes.now c.in_ok-i.i c.args.at (sym first ∙ c.in_ok-i.was)

@@ -1,17 +1,8 @@
-use Rattle.std.proofs.Common.{sym, ap, ◌∙◌, rules}
-use Rattle.std.proofs.lemmas.List.{places}
-use Rattle.classes.specs.Words.{is_name}
-use Rattle.classes.proofs.Plain.{copied, name_short}
+use Rattle.std.proofs.Common.{sym, ◌∙◌, arith}
+use Rattle.classes.proofs.Plain.{name_utf8}
 use Rattle.classes.proofs.name.Name.new.Goals as goal
 
-pub invariant_of-result : goal.invariant_of-result
-invariant_of-result c =
-    let proper = sym c.is_name.ensures ∙ c.if-not-is_name.false in
-    record {
-      size = search (rules, places);
-      short = name_short _ proper;
-      proper = ap is_name (copied _ _ _ c.copy_from_slice.ensures.after) ∙ proper;
-    }
-
-pub returns : goal.returns
-returns c = (sym c.is_name.ensures ∙ c.if-not-is_name.false, copied _ _ _ c.copy_from_slice.ensures.after)
+pub unwrap-requires : goal.unwrap-requires
+unwrap-requires c =
+    let text = name_utf8 c.args.text.now (sym c.is_word.ensures ∙ c.if-not-is_word.false) in
+    grind arith

@@ -1,40 +1,18 @@
-use Rattle.std.proofs.Common.{get_or, refl, ap, arith}
-use Rattle.classes.specs.declared.class.Class.{Class}
-use Rattle.classes.proofs.Growth.{after, is_grown}
-use Rattle.classes.proofs.Tables.{row_read}
+use Rattle.std.proofs.Common.{sym, ap, ◌∙◌, subst, Some}
+use Rattle.classes.specs.WellFormed.{WellFormed}
+use Rattle.classes.proofs.Growth.{well_formed, is_grown, written}
 use Rattle.classes.proofs.table.ClassTable.grow.Goals as goal
 
-pub overflow_add-self : goal.overflow_add-self
-overflow_add-self c =
-    let t = c.args.self.now in
-    let above = row_read t c.args.parent c.index-self-parent.result c.requires.known in
-    omega (arith, ap (λ (r : Class). r.depth) above, t.shallow c.args.parent)
-
-pub invariant_of-self : goal.invariant_of-self
-invariant_of-self c =
+pub invariant_of-self-clause-well_formed : goal.invariant_of-self-clause-well_formed
+invariant_of-self-clause-well_formed c =
     let t = c.args.self.now in
     let p = c.args.parent in
-    let d = c.index-self-parent.result in
-    let u = after t p c.args.weight c.args.name (get_or t.classes p d) (row_read t p d c.requires.known) c.requires.room c.requires.known c.requires.shallow c.requires.fresh in
-    record {
-      size = u.size;
-      some = u.some;
-      few = u.few;
-      root = u.root;
-      earlier = u.earlier;
-      unused = u.unused;
-      deep = u.deep;
-      shallow = u.shallow;
-      first = u.first;
-      next = u.next;
-      titled = u.titled;
-      apart = u.apart;
-    }
+    let is = written t p c.args.weight c.args.name c.requires.known _ _ _ _ _ c.deref_mut.ensures.value (c.replace.ensures.after ∙ ap Some c.len-number.ensures.value) c.replace.ensures.value c.push.ensures.items in
+    subst WellFormed (sym is) (well_formed t p c.args.weight c.args.name c.requires.known c.requires.shallow c.requires.fresh)
 
-pub returns : goal.returns
-returns c =
+pub returns-clause-grown : goal.returns-clause-grown
+returns-clause-grown c =
     let t = c.args.self.now in
     let p = c.args.parent in
-    let d = c.index-self-parent.result in
-    let g = is_grown t p c.args.weight c.args.name (get_or t.classes p d) (row_read t p d c.requires.known) c.requires.room c.requires.known c.requires.shallow c.requires.fresh in
-    record { value = refl; grown = record { count = g.count; parents = g.parents; weights = g.weights; names = g.names } }
+    is_grown t p c.args.weight c.args.name c.requires.known _
+    (written t p c.args.weight c.args.name c.requires.known _ _ _ _ _ c.deref_mut.ensures.value (c.replace.ensures.after ∙ ap Some c.len-number.ensures.value) c.replace.ensures.value c.push.ensures.items)

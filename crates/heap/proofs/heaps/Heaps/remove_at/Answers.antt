@@ -1,35 +1,30 @@
-use Rattle.std.proofs.Common.{◌≡◌, ℕ, ◌-◌, set, None, sym, refl, ap, ◌∙◌, inl, inr, arith}
-use Rattle.std.proofs.lemmas.Bool.{cases_eq, eq-eqb, ne_eqb}
-use Rattle.heap.specs.Index.{exchanged}
-use Rattle.heap.specs.Keys.{count, classes, keys}
-use Rattle.heap.proofs.Kept.{count_kept, count_set}
+use Rattle.std.proofs.Common.{◌-◌, length, get_or, set, swap_remove, ap, ◌∙◌, arith}
+use Rattle.heap.proofs.Kept.{Removes, row_read, remove_leaves}
 use Rattle.heap.proofs.heaps.Heaps.remove_at.Goals as goal
+use Rattle.heap.proofs.heaps.Heaps.remove_at.Goals.{After-set}
 
--- what the second of two places gets is what the first had
-second : (f : ℕ → ℕ) (i j : ℕ) → exchanged f i j j ≡ f i
-second f i j =
-    elim (cases_eq j i) [
-      | inl same ↦ rw (eq-eqb j i same) (ap f same)
-      | inr other ↦ rw (ne_eqb j i other, eq-eqb j j refl) refl
-    ]
-
-pub returns : goal.returns
-returns c =
+leaves : (c : After-set) → Removes c.args.self.now c.set.new.self.rows (set c.args.self.now.heaps c.get.result c.swap_remove-class.new.self) c.args.group.value c.args.place
+leaves c =
     let s = c.args.self.now in
-    let t = c.exchange.new.self in
-    let u = c.drop_last.new.self in
-    let g = c.args.group in
+    let g = c.args.group.value in
     let i = c.args.place in
-    let r = c.exchange.ensures.reordered in
-    let j = c.len-last.result - 1 in
-    let last : count t g - 1 ≡ count s g - 1 = ap (λ n. n - 1) (sym (count_kept s t g r g)) in
-    let is : j ≡ count s g - 1 = ap (λ n. n - 1) c.len-last.ensures in
-    let class : classes t g (count t g - 1) ≡ classes s g i = ap (classes t g) (last ∙ sym is) ∙ (c.exchange.ensures.classes j ∙ second (classes s g) i j) in
-    let lens : u.lens ≡ set s.lens g (count s g - 1) = c.drop_last.ensures.lens ∙ (ap (λ l. set l g (count t g - 1)) r.lens ∙ ap (set s.lens g) last) in
-    let counts = count_set s u g (count s g - 1) c.requires.0 lens in
-    record {
-      pairs = c.drop_last.ensures.pairs ∙ (ap (λ p. set p (classes t g (count t g - 1)) None) r.pairs ∙ ap (λ k. set s.pairs k None) class);
-      lens = lens;
-      keys = λ k l. c.drop_last.ensures.keys g k l ∙ (c.exchange.ensures.keys k ∙ ap (λ n. exchanged (keys s g) i n k) (is ∙ sym counts.0));
-      others = λ h k n l. c.drop_last.ensures.keys h k (let e = counts.1 h n in omega arith) ∙ r.others h k n;
-    }
+    let n = c.len.result - 1 in
+    let a = c.swap_remove-class.result in
+    let z = c.index-deref-len.result in
+    let row = row_read s g c.get.result c.get.ensures.value c.get.ensures.range c.index-self-get.result in
+    let full = c.len.ensures.value ∙ ap length row in
+    let l = c.requires in
+    remove_leaves s g c.get.result i n c.get.ensures.value c.get.ensures.range c.requires (omega arith) c.swap_remove-class.new.self a z
+    (c.swap_remove-class.ensures.value ∙ ap (λ r. get_or r i a) row)
+    (c.index-deref-len.is ∙ ap (λ r. get_or r n z) (c.deref.ensures.0 ∙ row))
+    (c.swap_remove-class.ensures.items ∙ ap (λ r. swap_remove r i a) row)
+    c.move_to.new.self.rows c.set.new.self.rows c.move_to.ensures c.set.ensures
+
+pub invariant_of-self-clause-index : goal.invariant_of-self-clause-index
+invariant_of-self-clause-index c = (leaves c).index
+
+pub returns-clause-keys : goal.returns-clause-keys
+returns-clause-keys c = (leaves (goal.at.returns-clause-keys c).After-set).ranks
+
+pub returns-clause-others : goal.returns-clause-others
+returns-clause-others c = (leaves (goal.at.returns-clause-others c).After-set).others

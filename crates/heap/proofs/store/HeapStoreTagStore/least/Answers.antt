@@ -1,29 +1,28 @@
-use Rattle.std.proofs.Common.{Some, None, sym, subst, arith}
-use Rattle.tags.specs.Held.{Least, Looks}
+use Rattle.std.proofs.Common.{Some, None, sym, ap, ◌∙◌, arith}
+use Rattle.tags.specs.Held.{Least}
 use Rattle.tags.proofs.Uses.{looks_least}
-use Rattle.heap.specs.Index.{pair_at, tag_or}
+use Rattle.heap.specs.Index.{pair_at}
+use Rattle.heap.specs.Keys.{count}
 use Rattle.heap.proofs.Roots.{empty_looks, root_least}
 use Rattle.heap.proofs.store.HeapStoreTagStore.least.Goals as goal
-use Rattle.heap.proofs.store.HeapStoreTagStore.least.Goals.{then-group-ge64-via-then-group-ge64, then-group-ge64-via-else-group-ge64+then-len-eq0}
 
-pub returns-then-group-ge64 : goal.returns-then-group-ge64
-returns-then-group-ge64 c =
+pub returns-in_err-group : goal.returns-in_err-group
+returns-in_err-group c =
     let h = c.args.self.now.heaps in
-    let g = c.args.group in
-    let none : Looks (pair_at h.pairs) g 64 None = elim c.then-group-ge64.branch [
-      | then-group-ge64-via-then-group-ge64 w ↦ empty_looks h g (λ l. let past = w.if-group-ge64.true in absurd (omega arith))
-      | then-group-ge64-via-else-group-ge64+then-len-eq0 w ↦ empty_looks h g (λ l. let n = w.len.ensures in let z = w.if-len-eq0.true in omega arith)
-    ] in
-    record { value = looks_least (pair_at h.pairs) g None none; looks = none }
+    let past = c.in_err-group.ensures in
+    let none = empty_looks h c.args.group (λ l. absurd (omega arith)) in
+    rw c.from_residual.ensures (record { value = looks_least (pair_at h.standings.rows) c.args.group None none; looks = none })
+
+pub returns-in_err-class : goal.returns-in_err-class
+returns-in_err-class c =
+    let h = c.args.self.now.heaps in
+    let none = empty_looks h c.args.group (λ l. ap (count h) (sym c.in_ok-group.ensures) ∙ c.in_err-class.ensures) in
+    rw c.from_residual-in_err-class.ensures (record { value = looks_least (pair_at h.standings.rows) c.args.group None none; looks = none })
 
 pub returns : goal.returns
 returns c =
     let h = c.args.self.now.heaps in
-    let g = c.args.group in
-    let k = c.class_at-class.result in
-    let n = c.len.ensures in
-    let some = c.if-len-eq0.false in
-    let root = root_least h g c.if-group-ge64.false (omega (arith, some)) (c.args.self.now.ordered g) in
-    let class = subst (λ j. Least (pair_at h.pairs) g j (tag_or (pair_at h.pairs j)) 64) (sym c.class_at-class.ensures.value) root in
-    let both = subst (λ t. Least (pair_at h.pairs) g k t 64) (sym c.tag.ensures) class in
-    record { value = looks_least (pair_at h.pairs) g (Some (k, c.tag.result)) both; looks = both }
+    let g = c.in_ok-group.group in
+    let first = c.in_ok-class.ensures in
+    let least : Least (pair_at h.standings.rows) c.args.group c.get.result c.tag.result 64 = rw (sym c.in_ok-group.ensures, c.get.ensures.value, c.tag.ensures, first.1) (root_least h g.value g.small first.0 (c.args.self.now.ordered g.value)) in
+    record { value = looks_least (pair_at h.standings.rows) c.args.group (Some (c.get.result, c.tag.result)) least; looks = least }

@@ -6,14 +6,14 @@ use Rattle.play.proofs.Charging.{Charged, charging_more, way_falls}
 use Rattle.play.proofs.charges.Charges.add.Goals as goal
 
 pub loop-next-init : goal.loop-next-init
-loop-next-init g c = λ known. walk_none (shape_sound c.args.tree.now.table) c.args.leaf known (Charged c.args.self.now c.args.done.0 c.args.self.now) (λ k. refl)
+loop-next-init g c = λ known. walk_none (shape_sound c.args.tree.now.queue.table) c.args.leaf known (Charged c.args.self.now c.args.done.0 c.args.self.now) (λ k. refl)
 
 pub loop-next-smaller : goal.loop-next-smaller
-loop-next-smaller g c = way_falls (shape_sound c.args.tree.now.table) c.loop-next.next c.in-Some.class c.in-Some.is c.parent-next.result c.parent-next.ensures
+loop-next-smaller g c = way_falls (shape_sound c.args.tree.now.queue.table) c.loop-next.next c.in-Some.class c.in-Some.is c.parent-next.result c.parent-next.ensures
 
 pub loop-next-preserved : goal.loop-next-preserved
 loop-next-preserved g c = λ known.
-    let table = c.args.tree.now.table in
+    let table = c.args.tree.now.queue.table in
     let ok = shape_sound table in
     let leaf = c.args.leaf in
     let next = c.loop-next.next in
@@ -24,4 +24,4 @@ loop-next-preserved g c = λ known.
     (charging_more c.args.self.now c.loop-next.self c.add_to.new.self c.args.done.0 (came (shape_of table) leaf next) class (next_new ok leaf known next class c.in-Some.is was.0).0 was.1 (c.add_to.ensures (omega (arith, below, table.few))))
 
 pub returns : goal.returns
-returns g c = λ known. walk_all (shape_sound c.args.tree.now.table) c.args.leaf known (Charged c.args.self.now c.args.done.0 c.loop-next.self) c.loop-next.next c.in_default.is (c.loop-next.invariant known)
+returns g c = λ known. walk_all (shape_sound c.args.tree.now.queue.table) c.args.leaf known (Charged c.args.self.now c.args.done.0 c.loop-next.self) c.loop-next.next c.in_default.is (c.loop-next.invariant known)

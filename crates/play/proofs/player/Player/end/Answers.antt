@@ -1,5 +1,4 @@
-use Rattle.std.proofs.Common.{sym, refl, ap, ◌∙◌}
-use Rattle.listing.specs.declared.line.Outcome.TheVariants.{Refused}
+use Rattle.std.proofs.Common.{Err, sym, refl, ap, ◌∙◌}
 use Rattle.base.specs.declared.refusal.Refusal.TheVariants.{WrongGrant}
 use Rattle.rules.specs.Rules.{end_turn}
 use Rattle.text.specs.declared.line.Event.TheVariants.{End}
@@ -10,21 +9,21 @@ use Rattle.play.proofs.player.Player.end.Goals as goal
 pub returns-in_default : goal.returns-in_default
 returns-in_default g c = λ t o first es h bs f.
     let none = sym c.take.ensures.value ∙ c.in_default.is in
-    same_held g.I.Item g.S.Server g.I.OfCost.item g.T.TagStore.held f c.take.new.self (none ∙ sym c.take.ensures.after) End (Refused WrongGrant) (no_end g.I.Item g.S.Server g.I.OfCost.item g.T.TagStore.held f none)
+    same_held g.I.Item g.S.Server g.I.OfCost.item f c.take.new.self (none ∙ sym c.take.ensures.after) End (Err WrongGrant) (no_end g.I.Item g.S.Server g.I.OfCost.item f none)
 
 pub returns-in-Ok : goal.returns-in-Ok
 returns-in-Ok g c = λ t o first es h bs f.
     let told = c.in-Ok.ensures in
     let u = c.in-Some.turn in
     let some = sym c.take.ensures.value ∙ c.in-Some.is in
-    closed_on g.I.Item g.S.Server g.I.OfCost.item g.T.TagStore.held f u some _ _ End (end_turn (grant_of u.grant)) (ap end_turn (own_grant g.I.Item g.S.Server g.I.OfCost.item g.T.TagStore.held f u some))
-    c.in-Ok.done (told.kept f.in_step) told.table (told.steps _) (told.lawful _) refl c.take.ensures.after c.add.ensures
+    closed_on g.I.Item g.S.Server g.I.OfCost.item f u some _ End (end_turn (grant_of u.grant)) (ap end_turn (own_grant g.I.Item g.S.Server g.I.OfCost.item f u some))
+    c.in-Ok.done told.table (told.steps _) (told.lawful _) refl c.take.ensures.after c.add.ensures
 
 pub returns-in-Err : goal.returns-in-Err
 returns-in-Err g c = λ t o first es h bs f.
     let told = c.in-Err.ensures in
     let u = c.in-Some.turn in
     let some = sym c.take.ensures.value ∙ c.in-Some.is in
-    refused_on g.I.Item g.S.Server g.I.OfCost.item g.T.TagStore.held f _ _ End (end_turn (grant_of u.grant)) (ap end_turn (own_grant g.I.Item g.S.Server g.I.OfCost.item g.T.TagStore.held f u some))
-    c.in-Err.refusal (told.kept f.in_step) told.table (told.steps _) refl
-    (turn_back g.I.Item g.S.Server g.I.OfCost.item g.T.TagStore.held f u some _ c.in-Err.grant told.refused.0 refl) refl
+    refused_on g.I.Item g.S.Server g.I.OfCost.item f _ End (end_turn (grant_of u.grant)) (ap end_turn (own_grant g.I.Item g.S.Server g.I.OfCost.item f u some))
+    c.in-Err.refusal told.table (told.steps _) refl
+    (turn_back g.I.Item g.S.Server g.I.OfCost.item f u some _ c.in-Err.grant told.refused.0 refl) refl

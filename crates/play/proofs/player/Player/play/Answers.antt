@@ -16,7 +16,7 @@ loop-event-preserved g c = λ t o first f z.
       _,
       (
         _,
-        follows_as g.I.Item g.S.Server g.I.OfCost.item g.T.TagStore.held (sym (take_more c.args.events.now c.loop-event.event-index _ (omega arith))) next,
+        follows_as g.I.Item g.S.Server g.I.OfCost.item (sym (take_more c.args.events.now c.loop-event.event-index _ (omega arith))) next,
         subst (λ x. Holds c.push.new.self (bs ++ ended (event x c.take-outcome.result))) c.letter.ensures (c.push.ensures bs written),
       ),
     )
@@ -24,4 +24,4 @@ loop-event-preserved g c = λ t o first f z.
 pub returns : goal.returns
 returns g c = λ t o first f z.
     let (h, (bs, all, written)) = c.loop-event.invariant t o first f z in
-    (h, (bs, follows_as g.I.Item g.S.Server g.I.OfCost.item g.T.TagStore.held (take_all c.loop-event.event-index c.args.events.now (omega arith)) all, written))
+    (h, (bs, follows_as g.I.Item g.S.Server g.I.OfCost.item (take_all c.loop-event.event-index c.args.events.now (omega arith)) all, written))

@@ -3,4 +3,4 @@ use Rattle.play.specs.Players.{PlaysAll}
 use Rattle.play.proofs.player.Player.play.Given as goal
 
 abbrev pub invariant-loop-event : goal.invariant-loop-event
-invariant-loop-event g l = PlaysAll g.I.Item g.S.Server g.I.OfCost.item g.T.TagStore.held l.initial.self l.initial.shelf l.initial.listing (take l.event-index l.events) l.self l.shelf l.listing
+invariant-loop-event g l = PlaysAll g.I.Item g.S.Server g.I.OfCost.item l.initial.self l.initial.listing (take l.event-index l.events) l.self l.listing

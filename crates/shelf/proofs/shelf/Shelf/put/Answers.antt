@@ -1,44 +1,35 @@
-use Rattle.std.proofs.Common.{◌≡◌, ltb, length, sym, refl, ap, ◌∙◌, subst, add-zero, arith}
+use Rattle.std.proofs.Common.{rules, ◌≡◌, ℕ, cond, eqb, [], ◌∷◌, ◌++◌, set, sym, ◌∙◌, refl, arith}
 use Rattle.std.proofs.lemmas.List.{drop-set-lt}
-use Rattle.std.proofs.lemmas.Bool.{true≢false, cond-true, lt-ltb}
-use Rattle.std.proofs.lemmas.Bool.Decides.{nat_tests}
-use Rattle.shelf.specs.Lanes.{lanes, room, free, Priced}
-use Rattle.shelf.specs.Tables.{spare}
+use Rattle.shelf.specs.Places.{lanes_of}
+use Rattle.shelf.specs.Tables.{Claimed}
+use Rattle.shelf.specs.Lanes.{lanes}
 use Rattle.shelf.proofs.Items.{put_lane}
-use Rattle.shelf.proofs.Lines.{no_first, claimed_free}
+use Rattle.shelf.proofs.Lines.{claimed_first}
 use Rattle.shelf.proofs.Prices.{put_priced}
-use Rattle.shelf.proofs.Shelves.{with_table}
 use Rattle.shelf.proofs.shelf.Shelf.put.Goals as goal
+use Rattle.shelf.proofs.shelf.Shelf.put.Goals.{After-claim}
 
-pub returns-in_default : goal.returns-in_default
-returns-in_default g c =
-    let s = c.args.self.now in
-    let same = c.in_default.ensures.after in
-    let full : length (spare s.table) ≡ 0 = no_first (spare s.table) (c.in_default.ensures.value ∙ cond-true (ltb c.args.lane 64) _ _ (lt-ltb c.args.lane 64 (omega arith))) in
-    let whole = with_table s c.claim.new.self _ same in
-    record {
-      answer = grind (arith, nat_tests, full, c.cost-cost.ensures);
-      lanes = λ j. ap (λ u. lanes u j) whole;
-      free = add-zero _ ∙ ap free whole;
-      room = ap room whole;
-      refused = λ _. whole;
-      lender = (refl, refl);
-      priced = subst (Priced g.I.Item.costs) (sym whole);
-    }
+-- the place that is claimed is the one that was written
+claimed : (g : _) (c : After-claim g) → Claimed c.args.self.now.table c.claim.new.self c.args.lane c.in_ok-place.place
+claimed g c =
+    let t = c.args.self.now.table in
+    claimed_first t c.claim.new.self c.args.lane c.in_ok-place.place c.claim.result (omega arith) (sym c.first_free.ensures.value ∙ c.in_ok-place.ensures.ok_part) c.claim.ensures.value c.claim.ensures.after
 
-pub returns : goal.returns
-returns g c =
+lanes_after : (g : _) (c : After-claim g) (j : ℕ) →
+    lanes_of (set c.args.self.now.places.now c.in_ok-place.place c.args.item) c.claim.new.self j ≡ cond (eqb j c.args.lane) (lanes c.args.self.now j ++ c.args.item ∷ []) (lanes c.args.self.now j)
+lanes_after g c =
     let s = c.args.self.now in
-    let t = s.table in
-    let h = c.in-Some.ensures.after in
-    let more = claimed_free t c.claim.new.self c.args.lane c.in-Some.place h in
-    let after = put_lane s.places.now t s.fits c.claim.new.self c.args.lane c.in-Some.place c.args.item h in
-    record {
-      answer = grind (arith, nat_tests, more, c.cost-cost.ensures);
-      lanes = after;
-      free = more;
-      room = h.same;
-      refused = λ e. absurd (true≢false e);
-      lender = (refl, drop-set-lt 256 s.places.now c.in-Some.place c.args.item (omega (arith, h.within, t.all.0)));
-      priced = λ p. put_priced g.I.Item.costs (lanes s) _ c.args.lane p c.args.item (omega (arith, c.cost-cost.ensures), omega (arith, c.cost-cost.ensures)) after;
-    }
+    put_lane s.places.now s.table s.fits c.claim.new.self c.args.lane c.in_ok-place.place c.args.item (claimed g c)
+
+pub invariant_of-self-clause-priced : goal.invariant_of-self-clause-priced
+invariant_of-self-clause-priced g c =
+    let s = c.args.self.now in
+    put_priced g.I.Item.costs (lanes s) _ c.args.lane s.priced c.args.item (search rules) (lanes_after g c)
+
+pub returns-clause-lanes : goal.returns-clause-lanes
+returns-clause-lanes g c = lanes_after g (goal.at.returns-clause-lanes g c).After-claim
+
+pub returns-clause-lender : goal.returns-clause-lender
+returns-clause-lender g c =
+    let s = c.args.self.now in
+    (refl, drop-set-lt 256 s.places.now c.in_ok-place.place c.args.item (omega (arith, (claimed g (goal.at.returns-clause-lender g c).After-claim).within, s.table.all.0)))

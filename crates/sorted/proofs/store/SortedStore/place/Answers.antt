@@ -1,24 +1,12 @@
-use Rattle.std.proofs.Common.{◌+◌, ◌-◌, ◌/◌, sym, ap, ◌∙◌, arith}
-use Rattle.sorted.specs.Rows.{row, precedes}
-use Rattle.sorted.proofs.Precedes.{lower_before, upper_after}
+use Rattle.std.proofs.Common.{rules}
+use Rattle.std.proofs.lemmas.List.Sorted.{IsPartitionPoint-from_clause}
+use Rattle.sorted.specs.Rows.{precedes}
+use Rattle.sorted.proofs.Precedes.{before_first}
 use Rattle.sorted.proofs.store.SortedStore.place.Goals as goal
 
-pub loop-low-preserved-then-before : goal.loop-low-preserved-then-before
-loop-low-preserved-then-before c =
+pub returns-clause-parted : goal.returns-clause-parted
+returns-clause-parted c =
     let s = c.args.self.now in
-    let inv = c.loop-low.invariant in
-    let m = c.loop-low.low + (c.loop-low.high - c.loop-low.low) / 2 in
-    let test = c.loop-low-test.true in
-    let most = inv.1 in
-    let mid = ap (λ e. precedes e c.args.key) (sym c.get.ensures) ∙ sym c.if-before.ensures in
-    (omega arith, inv.1, lower_before (row s.list.entries) s.list.len s.sorted m (omega arith) c.args.key mid, inv.3)
-
-pub loop-low-preserved : goal.loop-low-preserved
-loop-low-preserved c =
-    let s = c.args.self.now in
-    let inv = c.loop-low.invariant in
-    let m = c.loop-low.low + (c.loop-low.high - c.loop-low.low) / 2 in
-    let test = c.loop-low-test.true in
-    let most = inv.1 in
-    let mid = ap (λ e. precedes e c.args.key) (sym c.get.ensures) ∙ sym c.if-before.ensures in
-    (omega arith, omega arith, inv.2, upper_after (row s.list.entries) s.list.len s.sorted m (omega arith) c.args.key mid)
+    let es = s.entries.items in
+    let key = c.args.key in
+    IsPartitionPoint-from_clause (λ a. precedes a key) es c.partition_point.result (rw c.deref.ensures.0 at c.partition_point.ensures.partitioned) (before_first es s.sorted key) (λ a r f' k. search rules)

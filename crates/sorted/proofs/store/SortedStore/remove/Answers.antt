@@ -1,34 +1,23 @@
-use Rattle.std.proofs.Common.{None, sym, ap, ◌∙◌, subst, arith}
+use Rattle.std.proofs.Common.{◌≡◌, true, None, sym, ap, ◌∙◌}
 use mathlib.Core.Path.{fun_ext}
+use Rattle.std.proofs.lemmas.List.Quantifiers.{all_pairs_remove}
 use Rattle.tags.specs.Held.{with}
-use Rattle.sorted.specs.Rows.{row, held_in}
-use Rattle.sorted.specs.Inserts.{from_removed}
-use Rattle.sorted.specs.Means.{held_less}
-use Rattle.sorted.proofs.Sorts.{Sorted, sorted_of, sorted_less}
+use Rattle.sorted.specs.Rows.{held_in, precedes, differ}
+use Rattle.sorted.proofs.Means.{held_less}
 use Rattle.sorted.proofs.store.SortedStore.remove.Goals as goal
 
 pub invariant_of-self : goal.invariant_of-self
 invariant_of-self c =
     let s = c.args.self.now in
-    let t = c.remove.new.self in
-    let len = c.remove.ensures.len in
-    let at = c.requires in
-    let x = from_removed (row s.list.entries) (row t.entries) t.len c.args.at (omega arith) c.remove.ensures.rows in
-    let all = sorted_less x (subst (Sorted (row s.list.entries)) (sym len) (sorted_of s)) in
-    record {
-      groups = all.groups;
-      classes = all.classes;
-      once = all.once;
-      sorted = all.sorted;
-    }
+    let es = s.entries.items in
+    rw c.remove.ensures.items (record {
+      once = all_pairs_remove (λ a b. differ a b ≡ true) es c.args.at c.requires s.once;
+      sorted = all_pairs_remove (λ a b. precedes a b ≡ true) es c.args.at c.requires s.sorted;
+    })
 
-pub returns : goal.returns
-returns c =
+pub returns-clause-after : goal.returns-clause-after
+returns-clause-after c =
     let s = c.args.self.now in
-    let r = row s.list.entries in
-    let t = c.remove.new.self in
-    let len = c.remove.ensures.len in
-    let at = c.requires in
-    let x = from_removed r (row t.entries) t.len c.args.at (omega arith) c.remove.ensures.rows in
-    let was = subst (Sorted r) (sym len) (sorted_of s) in
-    fun_ext (held_less x was.once (sorted_less x was).once) ∙ ap (λ n. with (held_in r n) (r c.args.at).class None) len
+    let es = s.entries.items in
+    let e = c.remove.result in
+    ap held_in c.remove.ensures.items ∙ fun_ext (held_less es c.args.at e s.once c.requires) ∙ ap (λ a. with (held_in es) a.class.value None) (sym c.remove.ensures.value)

@@ -1,24 +1,41 @@
-use Rattle.std.proofs.Common.{◌<◌, length, refl, arith}
-use Rattle.classes.specs.Tables.{shape_of}
+use Rattle.std.proofs.Common.{◌≡◌, Some, None, refl, subst, arith}
+use Rattle.classes.specs.Tables.{class_count, shape_of, node_above}
 use Rattle.classes.proofs.Tables.{shape_sound}
 use Rattle.tree.proofs.Paths.{above_some}
 use Rattle.tree.proofs.Advancing.{advancing_none, advancing_more, advancing_all}
+use Rattle.tree.proofs.Stocks.{stocked_same}
+use Rattle.tree.proofs.Writes.{unused_set}
 use Rattle.tree.proofs.queue.Queue.advance.Goals as goal
 
 pub loop-node-init : goal.loop-node-init
-loop-node-init g c = (advancing_none (shape_sound c.args.table.now) c.args.leaf c.requires.known c.args.self.now.loads, refl)
+loop-node-init g c = record { table = refl; moved = advancing_none (shape_sound c.args.self.now.table) c.args.leaf c.requires.known c.args.self.now.loads }
+
+pub invariant_of-self-clause-in_step : goal.invariant_of-self-clause-in_step
+invariant_of-self-clause-in_step g c =
+    let q = c.loop-node.self in
+    let (pos, known, is) = above_some (shape_of q.table) c.loop-node.class c.in-Some.node c.in-Some.ensures in
+    stocked_same (shape_of q.table) q.loads c.in-Some.node _ (omega (arith, q.table.well_formed.earlier c.loop-node.class pos, q.table.few, q.size)) _ q.in_step refl
+
+pub invariant_of-self-clause-unused : goal.invariant_of-self-clause-unused
+invariant_of-self-clause-unused g c =
+    let q = c.loop-node.self in
+    let (pos, known, is) = above_some (shape_of q.table) c.loop-node.class c.in-Some.node c.in-Some.ensures in
+    unused_set q.loads c.in-Some.node (class_count q.table) _ (omega (arith, q.table.well_formed.earlier c.loop-node.class pos)) q.unused
 
 pub loop-node-preserved : goal.loop-node-preserved
 loop-node-preserved g c =
-    let t = c.args.table.now in
-    let (pos, known, is) = above_some (shape_of t) c.loop-node.class c.in-Some.node c.in-Some.ensures in
-    let low : c.in-Some.node < length c.loop-node.self.loads = omega (arith, t.earlier c.loop-node.class pos, t.few, c.loop-node.self.size) in (
-      advancing_more (shape_sound t) c.args.leaf c.requires.known c.args.self.now.loads c.loop-node.self.loads c.loop-node.class c.loop-node.invariant.0 c.in-Some.node _ c.in-Some.ensures low refl,
-      c.loop-node.invariant.1,
-    )
+    let t = c.args.self.now.table in
+    let q = c.loop-node.self in
+    let was = c.loop-node.invariant in
+    let (pos, known, is) = above_some (shape_of q.table) c.loop-node.class c.in-Some.node c.in-Some.ensures in
+    record {
+      table = was.table;
+      moved = advancing_more (shape_sound t) c.args.leaf c.requires.known c.args.self.now.loads q.loads c.loop-node.class was.moved c.in-Some.node _
+          (subst (λ u. Some c.in-Some.node ≡ node_above u c.loop-node.class) was.table c.in-Some.ensures) (omega (arith, q.table.well_formed.earlier c.loop-node.class pos, q.table.few, q.size)) refl;
+    }
 
-pub returns : goal.returns
-returns g c = record {
-  loads = advancing_all (shape_sound c.args.table.now) c.args.leaf c.requires.known c.args.self.now.loads c.loop-node.self.loads c.loop-node.class c.loop-node.invariant.0 c.in_default.ensures;
-  store = c.loop-node.invariant.1;
-}
+pub returns-clause-loads : goal.returns-clause-loads
+returns-clause-loads g c =
+    let was = c.loop-node.invariant in
+    advancing_all (shape_sound c.args.self.now.table) c.args.leaf c.requires.known c.args.self.now.loads c.loop-node.self.loads c.loop-node.class was.moved
+    (subst (λ u. None ≡ node_above u c.loop-node.class) was.table c.in_default.ensures)

@@ -4,7 +4,10 @@ use Rattle.tree.proofs.Advancing.{Advancing}
 use Rattle.tree.proofs.queue.Queue.advance.Given as goal
 
 abbrev pub invariant-loop-node : goal.invariant-loop-node
-invariant-loop-node g l = Advancing (shape_of l.table) l.leaf l.initial.self.loads l.self.loads l.class × (l.self.store ≡ l.initial.self.store)
+invariant-loop-node g l = record {
+  table : l.self.table ≡ l.initial.self.table;
+  moved : Advancing (shape_of l.initial.self.table) l.leaf l.initial.self.loads l.self.loads l.class;
+}
 
 abbrev pub decreases-loop-node : goal.decreases-loop-node
 decreases-loop-node g l = l.class

@@ -5,7 +5,10 @@ use Rattle.tree.proofs.Resting.{Clearing}
 use Rattle.tree.proofs.queue.Queue.rest.Given as goal
 
 abbrev pub invariant-loop-next : goal.invariant-loop-next
-invariant-loop-next g l = Clearing (shape_of l.table) l.node l.initial.self.loads l.self.loads l.next × (l.self.store ≡ l.initial.self.store)
+invariant-loop-next g l = record {
+  table : l.self.table ≡ l.initial.self.table;
+  cleared : Clearing (shape_of l.initial.self.table) l.node l.initial.self.loads l.self.loads l.next;
+}
 
 abbrev pub decreases-loop-next : goal.decreases-loop-next
 decreases-loop-next g l = to_come l.next

@@ -1,33 +1,22 @@
-use Rattle.std.proofs.Common.{◌≡◌, ap, arith}
+use Rattle.std.proofs.Common.{◌≡◌, ℕ, ap, ◌∙◌, subst, arith}
 use Rattle.classes.specs.Tables.{shape_of, weight_of}
 use Rattle.tree.specs.Loads.{load}
-use Rattle.tree.proofs.Charging.{charged_blank, settled_busy, settled_idle, settled_held}
+use Rattle.tree.specs.Walks.{rested}
+use Rattle.tree.proofs.Charging.{settled_busy, settled_idle}
 use Rattle.tree.proofs.queue.Queue.settle_class.Goals as goal
+use Rattle.tree.proofs.queue.Queue.settle_class.Goals.{then-self-class-eq0, else-self-class-eq0}
 
-pub returns-then-self-class-gt0 : goal.returns-then-self-class-gt0
-returns-then-self-class-gt0 g c =
-    let t = c.args.table.now in
-    record {
-      value = c.parent-above.ensures;
-      loads = settled_busy (shape_of t) (weight_of t) c.args.done c.args.gone c.args.self.now.loads c.args.class _ c.charge_class.ensures.loads c.if-self-class-gt0.true;
-      held = c.charge_class.ensures.held;
-    }
-
-pub rest-requires : goal.rest-requires
-rest-requires g c =
-    let t = c.args.table.now in
-    record {
-      known = c.requires.known;
-      blank = charged_blank (shape_of t) (weight_of t) c.args.done c.args.gone c.args.self.now.loads c.args.class _ c.charge_class.ensures.loads c.requires.known c.requires.blank;
-    }
-
-pub returns : goal.returns
-returns g c =
-    let t = c.args.table.now in
-    let none : (load c.charge_class.new.self.loads c.args.class).backlog ≡ 0 = omega (arith, c.if-self-class-gt0.false) in
-    record {
-      value = c.parent-above.ensures;
-      loads = settled_idle (shape_of t) (weight_of t) c.args.done c.args.gone c.args.self.now.loads c.args.class _ c.charge_class.ensures.loads _ none c.rest.ensures.loads;
-      held = settled_held (shape_of t) (weight_of t) c.args.done c.args.gone c.args.self.now.loads c.args.class _ c.charge_class.ensures.loads _ none c.rest.ensures.loads
-          _ _ _ c.charge_class.ensures.held (ap g.T.TagStore.held c.rest.ensures.store);
-    }
+pub returns-clause-loads : goal.returns-clause-loads
+returns-clause-loads g c k =
+    let q = c.args.self.now in
+    let charged = c.charge_class.new.self.loads in
+    let was = c.charge_class.ensures in
+    elim c.if-self-class-eq0.branch [
+      | then-self-class-eq0 w ↦
+          let rest = subst (λ u. (k : ℕ) → load w.rest.new.self.loads k ≡ rested (shape_of u) charged c.args.class k) was.table w.rest.ensures.loads in
+          ap (λ r. load r.loads k) w.self-is
+          ∙ settled_idle (shape_of q.table) (weight_of q.table) c.args.closing.done c.args.closing.gone q.loads c.args.class charged was.loads _ w.if-self-class-eq0.true rest k
+      | else-self-class-eq0 w ↦
+          ap (λ r. load r.loads k) w.self-is
+          ∙ settled_busy (shape_of q.table) (weight_of q.table) c.args.closing.done c.args.closing.gone q.loads c.args.class charged was.loads (omega (arith, w.if-self-class-eq0.false)) k
+    ]

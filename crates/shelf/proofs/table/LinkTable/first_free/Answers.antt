@@ -1,0 +1,5 @@
+use Rattle.shelf.proofs.Lines.{chain_within}
+use Rattle.shelf.proofs.table.LinkTable.first_free.Goals as goal
+
+pub returns-clause-within : goal.returns-clause-within
+returns-clause-within c = chain_within c.args.self.now 64 c.first.result c.first.ensures
