@@ -1,5 +1,4 @@
 use Rattle.std.proofs.Common.{min, length, sym, ◌∙◌}
-use Rattle.heap.specs.contracts.store.HeapStoreTagStore.TheImpl.{ghosts as HeapStoreTagStore}
 use Rattle.rules.proofs.Bounds.{laws_met}
 use Rattle.rules.proofs.Tests.{not_some}
 use Rattle.play.specs.Listings.{Lists}
