@@ -1,6 +1,7 @@
 -- The first byte that cuts a text, and what the test of a word tells.
-use Rattle.std.proofs.Common.{◌≡◌, ℕ, zero, suc, ◌+◌, ◌-◌, ◌<◌, ◌≤◌, leb, Bool, true, false, List, [], ◌∷◌, ◌++◌, length, take, drop, Some, IsUtf8, IsAscii, Decides, Option, MatchOption, ◌==◌, sym, refl, ap, ◌∙◌, subst, ⊎_elim, arith, Bor}
+use Rattle.std.proofs.Common.{◌≡◌, ℕ, zero, suc, ◌+◌, ◌-◌, ◌<◌, ◌≤◌, leb, Bool, true, false, List, [], ◌∷◌, ◌++◌, length, take, drop, Some, None, Ok, Err, IsUtf8, IsAscii, Decides, Option, Result, MatchOption, MatchResult, ◌==◌, sym, refl, ap, ◌∙◌, subst, ⊎_elim, arith, Bor}
 use Rattle.std.specs.Bool.{then_some}
+use Rattle.std.specs.Result.{result_ok}
 use Rattle.std.specs.List.{AllByRecursion, list_all, position}
 use Rattle.std.proofs.ByRecursion.{All-from_get_or}
 use Rattle.std.proofs.lemmas.Bool.{true≢false, eqb-true, eq-eqb}
@@ -37,7 +38,7 @@ word_told bs =
     (Decides-and _ _ (at_most_told 1 (length bs)) (Decides-and _ _ (at_most_told (length bs) 10) (all_told bs)))
 
 -- a word is text
-pub word_utf8 : (bs : List ℕ) → Word bs → IsUtf8 bs
+word_utf8 : (bs : List ℕ) → Word bs → IsUtf8 bs
 word_utf8 bs w = IsUtf8-from_ascii bs (low bs w.plain)
   where
     low : (cs : List ℕ) → AllByRecursion Plain cs → IsAscii cs
@@ -45,6 +46,21 @@ word_utf8 bs w = IsUtf8-from_ascii bs (low bs w.plain)
     low (c ∷ cs) h zero = ⊎_elim (λ q. omega (arith, q.1)) (λ q. omega (arith, q.1)) h.0
     low (c ∷ cs) h (suc i) = low cs h.1 i
 
-pub as_word : (bs : List ℕ) (s : Bor (List ℕ)) (t : Bool) (o : Option (Bor (List ℕ))) → s.now ≡ bs → t ≡ is_word 10 bs → o ≡ then_some t s → MatchOption o (Word bs → ⊥) (λ w. Word w.now × (w.now ≡ bs))
-as_word bs s true o same test e = rw e (subst Word (sym same) ((word_told bs).0 (sym test)), same)
-as_word bs s false o same test e = rw e (not_from_Decides _ (word_told bs) (sym test))
+some_none : (s : Bor (List ℕ)) → ◌≡◌ {A = Option (Bor (List ℕ))} (Some s) None → ⊥
+some_none s e = cc
+
+some_same : (s w : Bor (List ℕ)) → ◌≡◌ {A = Option (Bor (List ℕ))} (Some s) (Some w) → s ≡ w
+some_same s w e = cc
+
+-- what the test of a word lets through
+pub not_word : (bs s : Bor (List ℕ)) (t : Bool) (p : Option (Bor (List ℕ))) → t ≡ is_word 10 bs.now → p ≡ then_some t s → p ≡ None → Word bs.now → ⊥
+not_word bs s true p test e none = absurd (some_none s (sym e ∙ none))
+not_word bs s false p test e none = not_from_Decides _ (word_told bs.now) (sym test)
+
+pub its_word : (bs w : Bor (List ℕ)) (t : Bool) (p : Option (Bor (List ℕ))) → t ≡ is_word 10 bs.now → p ≡ then_some t bs → p ≡ Some w → Word bs.now × (w ≡ bs)
+its_word bs w true p test e some = ((word_told bs.now).0 (sym test), sym (some_same bs w (sym e ∙ some)))
+its_word bs w false p test e some = absurd (some_none w (sym some ∙ e))
+
+pub as_text : {E : Type 0} (X : E → Type 0) (bs w : Bor (List ℕ)) (r : Result (Bor (List ℕ)) E) (o : Option (Bor (List ℕ))) → o ≡ result_ok r → MatchResult r (λ s. (s.now ≡ w.now) × IsUtf8 w.now) (λ e. (IsUtf8 w.now → ⊥) × X e) → Word bs.now × (w ≡ bs) → MatchOption o (Word bs.now → ⊥) (λ s. Word s.now × (s.now ≡ bs.now))
+as_text X bs w (Ok s) o e h (is, same) = let now = h.0 ∙ ap (λ b. b.now) same in rw e (subst Word (sym now) is, now)
+as_text X bs w (Err d) o e h (is, same) = absurd (h.0 (word_utf8 w.now (subst Word (sym (ap (λ b. b.now) same)) is)))

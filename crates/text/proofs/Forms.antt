@@ -1,8 +1,8 @@
 -- Which line some words are, and that no other is.
-use Rattle.std.proofs.Common.{◌≡◌, ℕ, ◌+◌, ◌<◌, Bool, true, false, not, cond, eqb, Option, Some, None, MatchOption, is_some, Bor, List, [], ◌∷◌, ◌++◌, length, sym, refl, ap, ◌∙◌, ⊎_elim, append-nil, arith, length-append}
+use Rattle.std.proofs.Common.{◌≡◌, ℕ, ◌+◌, ◌<◌, Bool, true, false, cond, eqb, Option, MatchOption, Decides, List, [], ◌∷◌, ◌++◌, length, sym, refl, ap, ◌∙◌, ⊎_elim, append-nil, arith, length-append}
 use Rattle.std.specs.Bool.{then_some}
 use Rattle.std.specs.List.{AllByRecursion}
-use Rattle.std.proofs.lemmas.Bool.{true≢false}
+use Rattle.std.proofs.lemmas.Bool.Decides.{not_from_Decides}
 use Rattle.std.proofs.lemmas.Fmt.{digits_decimal}
 use Rattle.std.proofs.ByRecursion.{All-weaker, All-from_get_or}
 use Rattle.std.proofs.lemmas.List.{nil_from_length}
@@ -96,8 +96,6 @@ module _ (bs : List ℕ) (k : ℕ) (rest : List (List ℕ)) (cut : splits bs ≡
       ap spaced ((λ j. (i j ∷ []) ∷ sym (f ∙ ap (λ z. fields m ++ z) none ∙ append-nil (fields m)) j) ∙ sym cut) ∙ spaced_splits bs
 
   -- the line stands where no word is left behind its form
-  pub ended : (m : Line) (more behind : List (List ℕ)) (o : Option (Bor (List ℕ))) (none : Bool) (r : Option Line) → Proper m → initial m ≡ k → rest ≡ fields m ++ more → MatchOption o (more ≡ []) (λ w. more ≡ w.now ∷ behind) → is_some o ≡ not none → r ≡ then_some none m → MatchOption r ((l : Line) → Proper l → written l ≡ bs → ⊥) (λ l. Proper l × (written l ≡ bs))
-  ended m more behind None true r p i f e s t = rw t (p, whole_line m more i f e)
-  ended m more behind None false r p i f e s t = absurd (true≢false (sym s))
-  ended m more behind (Some w) true r p i f e s t = absurd (true≢false s)
-  ended m more behind (Some w) false r p i f e s t = rw t (no_end m more i f (λ z. let z : ◌≡◌ {A = ℕ} 0 1 = cc in omega arith))
+  pub ended : (m : Line) (more : List (List ℕ)) (done : Bool) (r : Option Line) → Proper m → initial m ≡ k → rest ≡ fields m ++ more → Decides done (more ≡ []) → r ≡ then_some done m → MatchOption r ((l : Line) → Proper l → written l ≡ bs → ⊥) (λ l. Proper l × (written l ≡ bs))
+  ended m more true r p i f d t = rw t (p, whole_line m more i f (d.0 refl))
+  ended m more false r p i f d t = rw t (no_end m more i f (not_from_Decides _ d refl))

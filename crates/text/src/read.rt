@@ -1,5 +1,5 @@
 //! Reading a line.
-ghost use Rattle.std.specs.Prelude.{◌≡◌, ℕ, List, [], ◌∷◌, length, MatchOption, ◌≢◌};
+ghost use Rattle.std.specs.Prelude.{◌≡◌, ℕ, List, [], ◌∷◌, length, Decides, MatchOption, ◌≢◌};
 ghost use Rattle.std.specs.Iterator.{at_most};
 ghost use Rattle.text.specs.declared.line.Line.{Line as AnyLine};
 ghost use Rattle.text.specs.Words.{Word, Small, numeral};
@@ -36,6 +36,13 @@ impl<'a> Words<'a> {
         ensures { MatchOption result ((n : ℕ) (ws : List (List ℕ)) → Small n → left self.old ≢ numeral n ∷ ws) (λ n. Small n × (left self.old ≡ numeral n ∷ left self.new)) }
     {
         number(self.next()?)
+    }
+
+    /// Whether no word is left. A look at what is left, where `next` would go over it.
+    fn is_done(&self) -> bool
+        ensures { Decides result (left self.now ≡ []) }
+    {
+        self.rest.is_none()
     }
 }
 
@@ -95,7 +102,7 @@ fn parse(bytes: &[u8]) -> Option<Line<'_>>
     let mut words = Words::new(bytes);
     let letter = letter(words.next()?)?;
     let line = form(letter, &mut words)?;
-    words.next().is_none().then_some(line)
+    words.is_done().then_some(line)
 }
 
 /// The line that the bytes write, without its line end, or the refusal of bytes of another form.

@@ -26,8 +26,9 @@ pub fn letter(word: &[u8]) -> Option<char>
 pub fn word(bytes: &[u8]) -> Option<&str>
     ensures { MatchOption result (Word bytes.now → ⊥) (λ w. Word w.now × (w.now ≡ bytes.now)) }
 {
-    let text = std::str::from_utf8(bytes).ok()?;
-    is_word::<10>(bytes).then_some(text)
+    // first, since it looks at no more bytes than a word may have
+    let word = is_word::<10>(bytes).then_some(bytes)?;
+    std::str::from_utf8(word).ok()
 }
 
 /// The number that the bytes are the numeral of, if it fits 32 bits.

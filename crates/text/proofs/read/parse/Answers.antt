@@ -10,4 +10,4 @@ pub returns : goal.returns
 returns c =
     let cut = lettered c.args.bytes.now _ _ _ _ c.new-words.ensures c.in_ok-next.ensures.steps c.in_ok-letter.ensures in
     let got = c.in_ok-line.ensures in
-    ended c.args.bytes.now _ _ cut c.in_ok-line.line _ _ _ _ _ got.0 got.1 got.2 c.next-2.ensures.steps c.is_none.ensures c.then_some.ensures
+    ended c.args.bytes.now _ _ cut c.in_ok-line.line _ _ _ got.0 got.1 got.2 c.is_done.ensures c.then_some.ensures
