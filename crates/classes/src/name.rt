@@ -10,7 +10,7 @@ pub mod text;
 const MAX_BYTES: usize = 8;
 
 /// One to eight bytes of a to z and 0 to 9.
-#[derive(Clone, Copy, Debug, PartialEq, Eq)]
+#[derive(Clone, Copy, Debug)]
 pub struct Name {
     text: ArrayString<MAX_BYTES>,
     ghost proper: { is_name text.bytes ≡ true },

@@ -4,6 +4,8 @@ ghost use Rattle.base.specs.declared.refusal.Refusal.TheVariants.{BadName};
 ghost use Rattle.std.specs.Str.{bytes_eq};
 ghost use Rattle.classes.specs.Names.{text_of};
 ghost use Rattle.classes.specs.Words.{is_name};
+ghost use Rattle.std.specs.Cmp.{on_equiv, on_per, partial_equiv_from_equiv};
+ghost use Rattle.std.specs.Cmp.Lexicographic.{nat_list_eq_equiv};
 
 use crate::name::{MAX_BYTES, Name};
 use arrayvec::ArrayString;
@@ -28,7 +30,9 @@ impl Name {
     pub fn root() -> Name
         ensures { text_of result ≡ codes "root" }
     {
-        Name::new(b"root").unwrap()
+        let mut text = ArrayString::new();
+        text.push_str("root");
+        Name { text }
     }
 
     pub fn as_bytes(&self) -> &[u8]
@@ -49,6 +53,21 @@ impl Name {
     {
         self.as_bytes() == text
     }
+}
+
+// By hand, so that the text decides by a line of this file, in which a wrong one can be tried.
+impl PartialEq for Name {
+    ghost eq = { λ a b. bytes_eq (text_of a) (text_of b) };
+
+    ghost laws = { on_per text_of (partial_equiv_from_equiv nat_list_eq_equiv) };
+
+    fn eq(&self, other: &Name) -> bool {
+        self.as_bytes() == other.as_bytes()
+    }
+}
+
+impl Eq for Name {
+    ghost laws = { on_equiv text_of nat_list_eq_equiv };
 }
 
 impl fmt::Display for Name {
