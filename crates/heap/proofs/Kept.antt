@@ -1,5 +1,5 @@
 -- What the steps on the heaps leave. Assumes nothing.
-use Rattle.std.proofs.Common.{◌≡◌, ℕ, ◌+◌, ◌<◌, List, [], ◌∷◌, ◌++◌, length, get_or, set, None, Option, swap, swap_remove, sym, refl, ap, ◌∙◌, subst, inl, inr, arith}
+use Rattle.std.proofs.Common.{◌≡◌, ℕ, ◌+◌, ◌<◌, List, [], ◌∷◌, ◌++◌, length, get_or, set, None, swap, swap_remove, sym, refl, ap, ◌∙◌, subst, inl, inr, arith}
 use Rattle.std.proofs.lemmas.Grind.{common_steps}
 use Rattle.std.proofs.lemmas.List.{get_or-set_same, get_or-set_other, get_or_default, get_or_past, get_or_read, get_or_append_left, length-append}
 use Rattle.std.proofs.Math.Seq.{get_or-append_seam}
@@ -14,7 +14,7 @@ use Rattle.tags.proofs.Uses.{with_same, with_other}
 use Rattle.heap.specs.declared.heaps.Heaps.{Heaps}
 use Rattle.heap.specs.declared.standings.Standing.{Standing}
 use Rattle.heap.specs.Cells.{zero, row, size, cell}
-use Rattle.heap.specs.Index.{pair_of, place_of, pair_at, place_at, group_or, tag_or, group_at, rank_at, exchanged, Index, Puts, Moves}
+use Rattle.heap.specs.Index.{nowhere, pair_of, pair_at, place_at, group_or, tag_or, group_at, rank_at, exchanged, Index, Puts, Moves}
 use Rattle.heap.specs.Keys.{count, classes, keys}
 use Rattle.heap.proofs.Index.{Sets, one_place, exchange_kept, append_kept, remove_kept}
 
@@ -71,7 +71,7 @@ module _ (h : Heaps) where
       cell_here k = ap (λ r. (get_or r k zero).value) row_here
 
 -- class k alone has another pair
-module _ (rows rows' : List (Option Standing)) (k : ℕ) (o : Option Standing) (pairs : pair_at rows' ≡ with (pair_at rows) k (pair_of o)) where
+module _ (rows rows' : List Standing) (k : ℕ) (o : Standing) (pairs : pair_at rows' ≡ with (pair_at rows) k (pair_of o)) where
   groups_put : (g : ℕ) → group_or (pair_of o) ≡ g → Sets (group_at rows) (group_at rows') k g
   groups_put g group = record {
     here = ap (λ p. group_or (p k)) pairs ∙ (ap group_or (with_same (pair_at rows) k (pair_of o)) ∙ group);
@@ -82,7 +82,7 @@ module _ (rows rows' : List (Option Standing)) (k : ℕ) (o : Option Standing) (
   rank_put j n = ap (λ p. rank (tag_or (p j)) j) pairs ∙ ap (λ p. rank (tag_or p) j) (with_other (pair_at rows) k (pair_of o) j n)
 
 -- the tables after an exchange of the classes at places i and j of the heap of group g
-pub record Exchanges (h : Heaps) (rows : List (Option Standing)) (heaps : List (ArrayVec Number)) (g i j : ℕ) : Type 0 where
+pub record Exchanges (h : Heaps) (rows : List Standing) (heaps : List (ArrayVec Number)) (g i j : ℕ) : Type 0 where
   pub index : Index (group_at rows) (place_at rows) (size heaps) (cell heaps)
   pub pairs : pair_at rows ≡ pair_at h.standings.rows
   pub lens : (q : ℕ) → size heaps q ≡ count h q
@@ -90,8 +90,8 @@ pub record Exchanges (h : Heaps) (rows : List (Option Standing)) (heaps : List (
   pub ranks : (k : ℕ) → rank_at rows (cell heaps g k) ≡ exchanged (keys h g) i j k
   pub others : (q k : ℕ) → (q ≡ g → ⊥) → rank_at rows (cell heaps q k) ≡ keys h q k
 
--- a and b, who stand at i and j then, are told their places
-pub exchange_leaves : (h : Heaps) (g q i j : ℕ) → q ≡ g → q < 64 → i < count h g → j < count h g → (v : ArrayVec Number) → v.items ≡ swap (row h.heaps g) i j → (a b : Number) → a ≡ get_or v.items i a → b ≡ get_or v.items j b → (rows₁ rows' : List (Option Standing)) → Moves h.standings.rows rows₁ a.value i → Moves rows₁ rows' b.value j → Exchanges h rows' (set h.heaps q v) g i j
+-- a, who stood at j, and b, who stood at i, are told the places that they have then
+pub exchange_leaves : (h : Heaps) (g q i j : ℕ) → q ≡ g → q < 64 → i < count h g → j < count h g → (v : ArrayVec Number) → v.items ≡ swap (row h.heaps g) i j → (a b : Number) → a ≡ get_or (row h.heaps g) j a → b ≡ get_or (row h.heaps g) i b → (rows₁ rows' : List Standing) → Moves h.standings.rows rows₁ a.value i → Moves rows₁ rows' b.value j → Exchanges h rows' (set h.heaps q v) g i j
 exchange_leaves h g q i j at ql il jl v e a b at_i at_j rows₁ rows' one two =
     let rows = h.standings.rows in
     let heaps' = set h.heaps q v in
@@ -101,13 +101,10 @@ exchange_leaves h g q i j at ql il jl v e a b at_i at_j rows₁ rows' one two =
     let cells : Swapped (classes h g) (cell heaps' g) i j = (here i ∙ ap (λ n. n.value) s.0, here j ∙ ap (λ n. n.value) s.1, λ k ni nj. here k ∙ ap (λ n. n.value) (s.2 k ni nj)) in
     let far = away h g q at ql v in
     let lens : (p : ℕ) → size heaps' p ≡ count h p = λ p. grind (arith, sizes h g q at ql v, long) in
-    let ea : a.value ≡ cell heaps' g i = ap (λ n. n.value) (get_or_read v.items i a (omega arith) at_i zero) ∙ sym (here i) in
-    let eb : b.value ≡ cell heaps' g j = ap (λ n. n.value) (get_or_read v.items j b (omega arith) at_j zero) ∙ sym (here j) in
-    let ga = ap (group_at rows) (ea ∙ cells.0) ∙ (h.index.placed g j jl).0 in
-    let gb = ap (λ p. group_or (p b.value)) one.pairs ∙ (ap (group_at rows) (eb ∙ cells.1) ∙ (h.index.placed g i il).0) in
-    let gl : g < 64 = omega arith in
-    let told₁ = subst (λ k. Sets (place_at rows) (place_at rows₁) k i) ea (record { here = one.place (omega arith); else = one.places }) in
-    let told₂ = subst (λ k. Sets (place_at rows₁) (place_at rows') k j) eb (record { here = two.place (omega arith); else = two.places }) in
+    let ea : a.value ≡ cell heaps' g i = ap (λ n. n.value) (get_or_read (row h.heaps g) j a jl at_i zero) ∙ sym cells.0 in
+    let eb : b.value ≡ cell heaps' g j = ap (λ n. n.value) (get_or_read (row h.heaps g) i b il at_j zero) ∙ sym cells.1 in
+    let told₁ = subst (λ k. Sets (place_at rows) (place_at rows₁) k i) ea (record { here = one.place; else = one.places }) in
+    let told₂ = subst (λ k. Sets (place_at rows₁) (place_at rows') k j) eb (record { here = two.place; else = two.places }) in
     let pairs = two.pairs ∙ one.pairs in
     let ranks = λ (y : ℕ). ap (λ p. rank (tag_or (p y)) y) pairs in
     record {
@@ -120,11 +117,11 @@ exchange_leaves h g q i j at ql il jl v e a b at_i at_j rows₁ rows' one two =
     }
 
 -- the tables after class k, which did not stand, has come to the end of the heap of group g
-pub record Appends (h : Heaps) (rows : List (Option Standing)) (heaps : List (ArrayVec Number)) : Type 0 where
+pub record Appends (h : Heaps) (rows : List Standing) (heaps : List (ArrayVec Number)) : Type 0 where
   pub index : Index (group_at rows) (place_at rows) (size heaps) (cell heaps)
   pub ranks : (p i : ℕ) → i < count h p → rank_at rows (cell heaps p i) ≡ keys h p i
 
-pub append_leaves : (h : Heaps) (g q : ℕ) (k : Number) (o : Option Standing) → q ≡ g → q < 64 → group_or (pair_of o) ≡ g → place_of o ≡ count h g → pair_at h.standings.rows k.value ≡ None → (v : ArrayVec Number) → v.items ≡ row h.heaps g ++ k ∷ [] → (rows' : List (Option Standing)) → Puts h.standings.rows rows' k.value o → Appends h rows' (set h.heaps q v)
+pub append_leaves : (h : Heaps) (g q : ℕ) (k : Number) (o : Standing) → q ≡ g → q < 64 → group_or (pair_of o) ≡ g → o.place ≡ count h g → pair_at h.standings.rows k.value ≡ None → (v : ArrayVec Number) → v.items ≡ row h.heaps g ++ k ∷ [] → (rows' : List Standing) → Puts h.standings.rows rows' k.value o → Appends h rows' (set h.heaps q v)
 append_leaves h g q k o at ql group place free v e rows' put =
     let rows = h.standings.rows in
     let heaps' = set h.heaps q v in
@@ -141,13 +138,13 @@ append_leaves h g q k o at ql group place free v e rows' put =
     }
 
 -- the tables after the class at place i of the heap of group g has gone, and the last of the heap has come there
-pub record Removes (h : Heaps) (rows : List (Option Standing)) (heaps : List (ArrayVec Number)) (g i : ℕ) : Type 0 where
+pub record Removes (h : Heaps) (rows : List Standing) (heaps : List (ArrayVec Number)) (g i : ℕ) : Type 0 where
   pub index : Index (group_at rows) (place_at rows) (size heaps) (cell heaps)
   pub ranks : (k : ℕ) → k < size heaps g → rank_at rows (cell heaps g k) ≡ exchanged (keys h g) i (size heaps g) k
   pub others : (p k : ℕ) → (p ≡ g → ⊥) → k < count h p → rank_at rows (cell heaps p k) ≡ keys h p k
 
 -- z, the last, is told its new place, and then a is put out
-pub remove_leaves : (h : Heaps) (g q i n : ℕ) → q ≡ g → q < 64 → i < count h g → count h g ≡ n + 1 → (v : ArrayVec Number) (a z : Number) → a ≡ get_or (row h.heaps g) i a → z ≡ get_or (row h.heaps g) n z → v.items ≡ swap_remove (row h.heaps g) i a → (rows₁ rows' : List (Option Standing)) → Moves h.standings.rows rows₁ z.value i → Puts rows₁ rows' a.value None → Removes h rows' (set h.heaps q v) g i
+pub remove_leaves : (h : Heaps) (g q i n : ℕ) → q ≡ g → q < 64 → i < count h g → count h g ≡ n + 1 → (v : ArrayVec Number) (a z : Number) → a ≡ get_or (row h.heaps g) i a → z ≡ get_or (row h.heaps g) n z → v.items ≡ swap_remove (row h.heaps g) i a → (rows₁ rows' : List Standing) → Moves h.standings.rows rows₁ z.value i → Puts rows₁ rows' a.value nowhere → Removes h rows' (set h.heaps q v) g i
 remove_leaves h g q i n at ql il full v a z goes ends e rows₁ rows' move put =
     let rows = h.standings.rows in
     let heaps' = set h.heaps q v in
@@ -167,9 +164,9 @@ remove_leaves h g q i n at ql il full v a z goes ends e rows₁ rows' move put =
     let told : i < n → place_at rows' (classes h g n) ≡ i = λ l. grind (arith, apart g n, put.places, last, move.place) in
     let places : (j : ℕ) → (j ≡ classes h g i → ⊥) → (j ≡ classes h g n → ⊥) → place_at rows' j ≡ place_at rows j = λ j na nz. grind (arith, gone, last, put.places j, move.places j) in
     let pairs : pair_at rows' ≡ with (pair_at rows) a.value None = put.pairs ∙ ap (λ f. with f a.value None) move.pairs in
-    let kept = rank_put rows rows' a.value None pairs in
+    let kept = rank_put rows rows' a.value nowhere pairs in
     record {
-      index = remove_kept h.index g i n full il (subst (λ k. Sets (group_at rows) (group_at rows') k 64) gone (groups_put rows rows' a.value None pairs 64 refl)) counts far here rest told places;
+      index = remove_kept h.index g i n full il (subst (λ k. Sets (group_at rows) (group_at rows') k 64) gone (groups_put rows rows' a.value nowhere pairs 64 refl)) counts far here rest told places;
       ranks = subst (λ m. (k : ℕ) → k < m → rank_at rows' (cell heaps' g k) ≡ exchanged (keys h g) i m k) (sym counts.here) (λ k l. grind (arith, common_steps, here, rest k, kept (classes h g n), kept (classes h g k), apart g n, apart g k));
       others = λ p k ne l. ap (rank_at rows') (far p k ne) ∙ kept (classes h p k) (apart p k l (λ c _. ne c));
     }

@@ -3,29 +3,33 @@ use Rattle.std.specs.Prelude.{◌≡◌, ℕ, ◌<◌, cond, List, Some, None, O
 use Rattle.base.specs.declared.units.Parts.{Parts}
 use Rattle.tags.specs.Held.{Held, with}
 use Rattle.tags.specs.Order.{rank}
+use Rattle.tags.specs.declared.number.Number.{Number}
 use Rattle.heap.specs.declared.standings.Standing.{Standing}
 
+-- what is read past the end: it does not stand
+abbrev pub nowhere : Standing
+nowhere = record { pair = None; place = 0 }
+
 -- where class k stands
-abbrev pub standing : List (Option Standing) → ℕ → Option Standing
-standing rows k = slice_index_or rows k None
+abbrev pub standing : List Standing → ℕ → Standing
+standing rows k = slice_index_or rows k nowhere
+
+-- group and tag as a pair of the store
+abbrev pub plain : Option (Number × Parts) → Option (ℕ × Parts)
+plain None = None
+plain (Some p) = Some (p.0.value, p.1)
 
 -- the pair of a class that stands
-abbrev pub pair_of : Option Standing → Option (ℕ × Parts)
-pair_of None = None
-pair_of (Some s) = Some (s.group.value, s.tag)
-
--- its place; 0 where it does not stand
-abbrev pub place_of : Option Standing → ℕ
-place_of None = 0
-place_of (Some s) = s.place
+abbrev pub pair_of : Standing → Option (ℕ × Parts)
+pair_of s = plain s.pair
 
 -- the pair of class k
-abbrev pub pair_at : List (Option Standing) → Held
+abbrev pub pair_at : List Standing → Held
 pair_at rows k = pair_of (standing rows k)
 
 -- the place of class k
-abbrev pub place_at : List (Option Standing) → ℕ → ℕ
-place_at rows k = place_of (standing rows k)
+abbrev pub place_at : List Standing → ℕ → ℕ
+place_at rows k = (standing rows k).place
 
 -- the group of a pair; 64, which is none, where there is no pair
 abbrev pub group_or : Option (ℕ × Parts) → ℕ
@@ -38,23 +42,23 @@ tag_or None = record { 0 = 0 }
 tag_or (Some p) = p.1
 
 -- the group that class k stands in
-abbrev pub group_at : List (Option Standing) → ℕ → ℕ
+abbrev pub group_at : List Standing → ℕ → ℕ
 group_at rows k = group_or (pair_at rows k)
 
 -- the rank of class k
-abbrev pub rank_at : List (Option Standing) → ℕ → ℕ
+abbrev pub rank_at : List Standing → ℕ → ℕ
 rank_at rows k = rank (tag_or (pair_at rows k)) k
 
 -- class k alone now stands as o says
-pub record Puts (rows rows' : List (Option Standing)) (k : ℕ) (o : Option Standing) : Type 0 where
+pub record Puts (rows rows' : List Standing) (k : ℕ) (o : Standing) : Type 0 where
   pub pairs : pair_at rows' ≡ with (pair_at rows) k (pair_of o)
-  pub place : place_at rows' k ≡ place_of o
+  pub place : place_at rows' k ≡ o.place
   pub places : (j : ℕ) → (j ≢ k) → place_at rows' j ≡ place_at rows j
 
--- class k, if it stands, is now at place i, and nothing else has changed
-pub record Moves (rows rows' : List (Option Standing)) (k i : ℕ) : Type 0 where
+-- class k is now at place i, and nothing else has changed
+pub record Moves (rows rows' : List Standing) (k i : ℕ) : Type 0 where
   pub pairs : pair_at rows' ≡ pair_at rows
-  pub place : group_at rows k < 64 → place_at rows' k ≡ i
+  pub place : place_at rows' k ≡ i
   pub places : (j : ℕ) → (j ≢ k) → place_at rows' j ≡ place_at rows j
 
 -- f with its values at i and j exchanged

@@ -6,6 +6,7 @@ ghost use Rattle.heap.specs.Order.{Ordered};
 ghost use Rattle.std.proofs.Common.{rules};
 
 use crate::heaps::Heaps;
+use crate::standings::Standing;
 use base::units::Parts;
 use tags::TagStore;
 use tags::number::Number;
@@ -55,7 +56,7 @@ impl TagStore for HeapStore {
         let (Some(group), Some(class)) = (Number::new(group), Number::new(class)) else {
             return false;
         };
-        if self.heaps.standing(class).is_some() {
+        if self.heaps.standing(class).pair.is_some() {
             return false;
         }
         self.insert(group, class, tag);
@@ -69,8 +70,9 @@ impl TagStore for HeapStore {
     }
 
     fn take(&mut self, class: u8) -> Option<Parts> {
-        let standing = self.heaps.standing(Number::new(class)?)?;
-        self.remove(standing.group, standing.place);
-        Some(standing.tag)
+        let Standing { pair, place } = self.heaps.standing(Number::new(class)?);
+        let (group, tag) = pair?;
+        self.remove(group, place);
+        Some(tag)
     }
 }

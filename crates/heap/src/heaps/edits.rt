@@ -25,7 +25,7 @@ impl Heaps {
     }
 
     /// Where a class stands.
-    pub(crate) fn standing(&self, class: Number) -> Option<Standing>
+    pub(crate) fn standing(&self, class: Number) -> Standing
         ensures { result ≡ standing self.now.standings.rows class.value }
     {
         self.standings.get(class)
@@ -37,7 +37,8 @@ impl Heaps {
     {
         self.standings
             .get(class)
-            .map_or(Parts::ZERO, |standing| standing.tag)
+            .pair
+            .map_or(Parts::ZERO, |(_, tag)| tag)
     }
 
     /// How many classes stand in a group.
@@ -81,9 +82,13 @@ impl Heaps {
         ensures reordered { Reordered self.old self.new group.value }
     {
         let heap = &mut self.heaps[group.get() as usize];
+        // read before they are written, so that nothing waits for the writes
+        let a = heap[i];
+        let b = heap[j];
         heap.swap(i, j);
-        self.standings.move_to(heap[i], i);
-        self.standings.move_to(heap[j], j);
+        self.standings.move_to(b, i);
+        self.standings.move_to(a, j);
+        prove!(j < heap.len());
     }
 
     /// Puts a class that does not stand at the end of a group's heap.
@@ -96,8 +101,8 @@ impl Heaps {
     {
         let place = self.len(group);
         self.heaps[group.get() as usize].push(class);
-        self.standings
-            .set(class, Some(Standing { group, tag, place }));
+        let pair = Some((group, tag));
+        self.standings.set(class, Standing { pair, place });
     }
 
     /// Removes the class at a place of a group's heap, with its pair. The last class of the heap goes to its place.
@@ -113,6 +118,6 @@ impl Heaps {
         let last = heap[heap.len() - 1];
         self.standings.move_to(last, place);
         let class = heap.swap_remove(place);
-        self.standings.set(class, None);
+        self.standings.set(class, Standing::NOWHERE);
     }
 }

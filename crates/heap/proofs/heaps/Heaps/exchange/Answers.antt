@@ -10,16 +10,17 @@ leaves c =
     let s = c.args.self.now in
     let g = c.args.group.value in
     let was = get_or s.heaps c.get.result c.index-self-get.result in
-    let row = c.deref_mut.ensures.value ∙ row_read s g c.get.result c.get.ensures.value c.get.ensures.range c.index-self-get.result in
+    let read = row_read s g c.get.result c.get.ensures.value c.get.ensures.range c.index-self-get.result in
     let items = items-with_items was c.swap.new.self (c.swap.ensures.len ∙ ap length c.deref_mut.ensures.value) in
-    exchange_leaves s g c.get.result c.args.i c.args.j c.get.ensures.value c.get.ensures.range c.requires.0 c.requires.1 (with_items was c.swap.new.self) (items ∙ (c.swap.ensures.after ∙ ap (λ r. swap r c.args.i c.args.j) row))
-    c.index-deref-i.result c.index-deref-j.result
-    (c.index-deref-i.is ∙ ap (λ r. get_or r c.args.i c.index-deref-i.result) c.deref.ensures.0)
-    (c.index-deref-j.is ∙ ap (λ r. get_or r c.args.j c.index-deref-j.result) c.deref-2.ensures.0)
+    exchange_leaves s g c.get.result c.args.i c.args.j c.get.ensures.value c.get.ensures.range c.requires.0 c.requires.1 (with_items was c.swap.new.self)
+    (items ∙ (c.swap.ensures.after ∙ ap (λ r. swap r c.args.i c.args.j) (c.deref_mut.ensures.value ∙ read)))
+    c.index-deref-j.result c.index-deref-i.result
+    (c.index-deref-j.is ∙ ap (λ r. get_or r c.args.j c.index-deref-j.result) (c.deref-2.ensures.0 ∙ read))
+    (c.index-deref-i.is ∙ ap (λ r. get_or r c.args.i c.index-deref-i.result) (c.deref.ensures.0 ∙ read))
     c.move_to.new.self.rows c.move_to-2.new.self.rows c.move_to.ensures c.move_to-2.ensures
 
 pub invariant_of-self-clause-index : goal.invariant_of-self-clause-index
-invariant_of-self-clause-index c = (leaves c).index
+invariant_of-self-clause-index c = (leaves (goal.at.invariant_of-self-clause-index c).After-move_to-2).index
 
 pub returns : goal.returns
 returns c =
