@@ -1,3 +1,4 @@
 pub mod Precedes
 pub mod Means
+pub mod Each
 pub mod Sorts

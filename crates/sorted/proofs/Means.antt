@@ -1,7 +1,9 @@
 -- What entries mean, by the places of their classes, and with one more or one less. Assumes nothing.
-use Rattle.std.proofs.Common.{◌≡◌, ◌≢◌, ℕ, zero, suc, ◌<◌, Bool, true, not, List, [], ◌∷◌, length, get_or, insert, remove, Some, None, Option, is_some, eqb, sym, refl, ap, ◌∙◌, inl, inr, arith}
-use Rattle.std.proofs.lemmas.Bool.{cases_eq, eq-eqb, ne_eqb, eqb-false, not-true, not-false, true≢false}
-use Rattle.std.proofs.lemmas.List.Elements.{All-head, All-tail}
+use Rattle.std.proofs.Common.{◌≡◌, ◌≢◌, ℕ, zero, suc, ◌+◌, ◌<◌, ◌≤◌, ◌⊎◌, Bool, true, not, List, [], ◌∷◌, length, get_or, insert, remove, Some, None, Option, is_some, eqb, sym, refl, ap, ◌∙◌, inl, inr, arith}
+use Rattle.std.specs.List.{HoldsAt}
+use Rattle.std.proofs.lemmas.Bool.{cases_lt, cases_eq, eq-eqb, ne_eqb, eqb-false, not-true, not-false, true≢false}
+use Rattle.std.proofs.lemmas.List.Edits.{length-insert, get_or-insert_below, get_or-insert_at, get_or-insert_above}
+use Rattle.std.proofs.lemmas.List.Elements.{All-nil, All-cons, All-head, All-tail}
 use Rattle.base.specs.declared.units.Parts.{Parts}
 use Rattle.tags.specs.Held.{with, free}
 use Rattle.tags.proofs.Uses.{none_some}
@@ -29,6 +31,33 @@ held_at (e ∷ es) k zero d once l is = rw (eq-eqb e.class.value k is) refl
 held_at (e ∷ es) k (suc i) d once l is =
     let low : i < length es = omega arith in
     rw (ne_eqb e.class.value k (λ same. once_head e es once i d low (is ∙ sym same))) (held_at es k i d (once_tail e es once) low is)
+
+-- either an entry has the class, or none
+pub seek : (es : List Entry) (k : ℕ) → ((i : ℕ) × (i < length es) × HoldsAt (λ e. e.class.value ≡ k) es i) ⊎ Missing es k
+seek [] k = inr (All-nil (λ a. a.class.value ≢ k))
+seek (e ∷ es) k =
+    elim (cases_eq e.class.value k) [
+      | inl here ↦ inl (0, omega arith, λ d. here)
+      | inr other ↦ elim (seek es k) [
+        | inl some ↦ let l = some.1 in inl (suc some.0, omega arith, λ d. some.2 d)
+        | inr none ↦ inr (All-cons (λ a. a.class.value ≢ k) e es other none)
+      ]
+    ]
+
+-- where no class has two entries with e put in, the class of e had none
+pub new_class : (es : List Entry) (p : ℕ) (e : Entry) → p ≤ length es → Once (insert es p e) → Missing es e.class.value
+new_class es p e within once i d l same =
+    let long = length-insert es p e within in
+    elim (cases_lt i p) [
+      | inl low ↦
+          two_classes (get_or es i d) e
+          (rw (get_or-insert_below es p e d i low within, get_or-insert_at es p e d within) at (once i p d low (omega arith)))
+          same
+      | inr high ↦
+          two_classes e (get_or es i d)
+          (rw (get_or-insert_at es p e d within, get_or-insert_above es p e d i high within) at (once p (i + 1) d (omega arith) (omega arith)))
+          (sym same)
+    ]
 
 -- the entry that a pair is read from
 pub held_row : (es : List Entry) (k g : ℕ) (t : Parts) (d : Entry) → held_in es k ≡ Some (g, t) → (i : ℕ) × (i < length es) × ((get_or es i d).class.value ≡ k) × (pair (get_or es i d) ≡ Some (g, t))

@@ -44,13 +44,13 @@ impl SortedStore {
         self.entries.partition_point(|entry| *entry < key)
     }
 
-    // Puts in the entry of a class that has none.
-    fn insert(&mut self, new: Entry)
-        requires { free (held_in self.old.entries.items new.class.value) ≡ true }
-        ensures { held_in self.new.entries.items ≡ with (held_in self.old.entries.items) new.class.value (Some (new.group.value, new.tag)) }
+    // Puts in the entry of a class that has none. By reference: by value its bytes would be copied once more on the way.
+    fn insert(&mut self, new: &Entry)
+        requires { free (held_in self.old.entries.items new.now.class.value) ≡ true }
+        ensures { held_in self.new.entries.items ≡ with (held_in self.old.entries.items) new.now.class.value (Some (new.now.group.value, new.now.tag)) }
     {
-        let at = self.place(new);
-        self.entries.insert(at, new);
+        let at = self.place(*new);
+        self.entries.insert(at, *new);
     }
 
     // Removes the entry at a place.
@@ -74,14 +74,16 @@ impl TagStore for SortedStore {
         }
     }
 
+    #[inline]
     fn put(&mut self, group: u8, class: u8, tag: Parts) -> bool {
         let (Some(group), Some(class)) = (Number::new(group), Number::new(class)) else {
             return false;
         };
+        let new = Entry { group, tag, class };
         if !self.is_free(class) {
             return false;
         }
-        self.insert(Entry { group, tag, class });
+        self.insert(&new);
         true
     }
 
