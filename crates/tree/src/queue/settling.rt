@@ -106,6 +106,7 @@ impl<T: TagStore> Queue<T> {
         requires known { node < class_count self.old.table }
         ensures table { self.new.table ≡ self.old.table }
         ensures loads { (k : ℕ) → load self.new.loads k ≡ rested (shape_of self.old.table) self.old.loads node k }
+        ensures store { self.new.store ≡ self.old.store }
     {
         let mut next = self.table.first_child(node);
         while let Some(child) = next {

@@ -57,6 +57,7 @@ impl<T: TagStore> Queue<T> {
         requires known { leaf < class_count self.old.table }
         ensures table { self.new.table ≡ self.old.table }
         ensures loads { Advanced (shape_of self.old.table) leaf self.old.loads self.new.loads }
+        ensures store { self.new.store ≡ self.old.store }
     {
         let mut class = leaf;
         while let Some(node) = self.table.parent(class) {

@@ -6,6 +6,7 @@ use Rattle.tree.proofs.queue.Queue.advance.Given as goal
 abbrev pub invariant-loop-node : goal.invariant-loop-node
 invariant-loop-node g l = record {
   table : l.self.table ≡ l.initial.self.table;
+  kept : l.self.store ≡ l.initial.self.store;
   moved : Advancing (shape_of l.initial.self.table) l.leaf l.initial.self.loads l.self.loads l.class;
 }
 

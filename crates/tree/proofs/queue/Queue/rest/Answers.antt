@@ -9,7 +9,7 @@ use Rattle.tree.proofs.queue.Queue.rest.Goals as goal
 pub loop-next-init : goal.loop-next-init
 loop-next-init g c =
     let q = c.args.self.now in
-    record { table = refl; cleared = clearing_none (shape_sound q.table) c.args.node q.loads c.first_child-next.result c.first_child-next.ensures q.unused }
+    record { table = refl; kept = refl; cleared = clearing_none (shape_sound q.table) c.args.node q.loads c.first_child-next.result c.first_child-next.ensures q.unused }
 
 pub bounds-self-child : goal.bounds-self-child
 bounds-self-child g c =
@@ -50,6 +50,7 @@ loop-next-preserved g c =
     let known = child_known (shape_sound t) c.args.node _ _ c.loop-next.next was.cleared c.in-Some.child c.in-Some.is in
     record {
       table = was.table;
+      kept = was.kept;
       cleared = clearing_more (shape_sound t) c.args.node _ _ c.loop-next.next was.cleared c.in-Some.child c.in-Some.is _ c.next_sibling-next.result (omega (arith, known, t.few, q.size)) refl
           (subst (λ u. c.next_sibling-next.result ≡ sibling_below u c.in-Some.child) was.table c.next_sibling-next.ensures);
     }
@@ -69,3 +70,6 @@ returns-clause-loads g c =
     let t = c.args.self.now.table in
     let q = c.loop-next.self in
     clearing_all (shape_sound t) c.args.node _ _ c.loop-next.next c.loop-next.invariant.cleared c.in_default.is _ (omega (arith, c.requires.known, t.few, q.size)) refl
+
+pub returns-clause-store : goal.returns-clause-store
+returns-clause-store g c = c.loop-next.invariant.kept

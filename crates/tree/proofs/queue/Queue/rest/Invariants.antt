@@ -7,6 +7,7 @@ use Rattle.tree.proofs.queue.Queue.rest.Given as goal
 abbrev pub invariant-loop-next : goal.invariant-loop-next
 invariant-loop-next g l = record {
   table : l.self.table ≡ l.initial.self.table;
+  kept : l.self.store ≡ l.initial.self.store;
   cleared : Clearing (shape_of l.initial.self.table) l.node l.initial.self.loads l.self.loads l.next;
 }
 
