@@ -23,9 +23,12 @@ impl<T: TagStore, I: Item> Tree<T, I> {
         ensures table { result.queue.table ≡ draft.table }
     {
         let (house, table) = draft.into_parts();
+        let queue = Queue::new(table);
+        // Costs nothing; but since the queue is looked at, LLVM builds its parts in the tree, and not a whole queue to be copied there.
+        prove!(queue.load(0).backlog == 0);
         Tree {
             house,
-            queue: Queue::new(table),
+            queue,
             phase: Phase::Free,
             meter: Units::ZERO,
             turns: 0,

@@ -7,9 +7,9 @@ use Rattle.tree.proofs.tree.Tree.open.Goals as goal
 
 pub invariant_of-result : goal.invariant_of-result
 invariant_of-result g c =
-    let t = shape_of c.new.result.table in
-    let ls = c.new.result.loads in
-    let blank = c.new.ensures.loads in
+    let t = shape_of c.new-queue.result.table in
+    let ls = c.new-queue.result.loads in
+    let blank = c.new-queue.ensures.loads in
     record {
       counted = none_counted t ls blank;
       few = λ k. omega (arith, none_queued t ls blank k);
