@@ -19,7 +19,7 @@ abbrev pub plain : Option (Number × Parts) → Option (ℕ × Parts)
 plain None = None
 plain (Some p) = Some (p.0.value, p.1)
 
--- the pair of a class that stands
+-- the pair of a class, if it stands
 abbrev pub pair_of : Standing → Option (ℕ × Parts)
 pair_of s = plain s.pair
 

@@ -88,6 +88,7 @@ impl Heaps {
         heap.swap(i, j);
         self.standings.move_to(b, i);
         self.standings.move_to(a, j);
+        // costs nothing; but the loan of the heap has to last over the writes
         prove!(j < heap.len());
     }
 
